@@ -1,0 +1,4 @@
+pub mod Phases
+pub mod Slots
+pub mod Seeing
+pub mod Changing
