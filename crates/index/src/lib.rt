@@ -11,14 +11,14 @@ use keys::Key;
 use std::cmp::Ordering;
 
 /// What `put` says of a pair that now is in the set.
-#[derive(Clone, Copy)]
+#[derive(Clone, Copy, PartialEq, Eq, Debug)]
 pub enum Put {
     Added,
     Present,
 }
 
 /// The fault of an index: it is full, and has the capacity.
-#[derive(Clone, Copy)]
+#[derive(Clone, Copy, PartialEq, Eq, Debug)]
 pub struct IndexFault {
     pub capacity: usize,
 }

@@ -6,6 +6,7 @@ ghost use Rattle.std.specs.declared.cmp.Ordering.{Ordering};
 ghost use Rattle.keys.specs.Laws.{KeyLaws, equal-by};
 ghost use Rattle.keys.specs.Kinds.{card-order, card-hash, card-laws, place-order, place-hash, place-laws};
 use std::cmp::Ordering;
+use std::fmt;
 
 /// A kind of key: a total order, an equality that agrees with it, and a hash number.
 pub trait Key: Copy {
@@ -53,7 +54,15 @@ pub impl Key for CardNumber as CardNumberKey {
     }
 
     fn hash(&self) -> u32 {
-        self.0
+        let CardNumber(number) = *self;
+        number
+    }
+}
+
+pub impl fmt::Display for CardNumber as CardNumberDisplay {
+    fn fmt<W: fmt::Write>(&self, f: &mut fmt::Formatter<W>) -> fmt::Result {
+        let number = self.0;
+        write!(f, "{number}")
     }
 }
 
@@ -79,11 +88,21 @@ pub impl Key for BoardPlace as BoardPlaceKey {
     }
 
     fn equals(&self, other: &BoardPlace) -> bool {
-        self.compare(other).is_eq()
+        let order = self.compare(other);
+        order.is_eq()
     }
 
     fn hash(&self) -> u32 {
         u32::from(self.seat) * 65536 + u32::from(self.zone) * 256 + u32::from(self.slot)
+    }
+}
+
+pub impl fmt::Display for BoardPlace as BoardPlaceDisplay {
+    fn fmt<W: fmt::Write>(&self, f: &mut fmt::Formatter<W>) -> fmt::Result {
+        let seat = self.seat;
+        let zone = self.zone;
+        let slot = self.slot;
+        write!(f, "{seat}.{zone}.{slot}")
     }
 }
 

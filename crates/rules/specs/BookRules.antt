@@ -39,11 +39,11 @@ module _ {K : Type 0} where
   abbrev pub noting : ℕ → ℕ → Transaction → Option (Noted K) → List (Entry (Note K)) → Checked (ℕ × List (Entry (Note K)))
   noting p n t None ns = Ok (t .made, ns)
   noting p n t (Some what) ns =
-    cond (is-serializable (t .level))
-    (do
-      refuse-if (not (any-free ns)) refusal.Notes
-      Ok (one-more (t .made), set ns p (filled (record { owner = n; number = t .made; noted = what }))))
-    (Ok (t .made, ns))
+      cond (is-serializable (t .level))
+      (do
+        refuse-if (not (any-free ns)) refusal.Notes
+        Ok (one-more (t .made), set ns p (filled (record { owner = n; number = t .made; noted = what }))))
+      (Ok (t .made, ns))
 
 module _ {K V : Type 0} where
   -- a note of the version met, unless it is n's own; "absent" is noted as the range of the one key
@@ -59,15 +59,16 @@ module _ {K V : Type 0} where
   abbrev pub conclude : Choice → World K V → ℕ → Transaction → Option (Noted K) → List Bool → Answer V → Outcome K V
   conclude c w n t what ws a = do
     x ← noting (c .note) n t what (w .notes)
-    Ok
-      ( record
-          { store = with-slots (w .store) (change n (answered (x .0) ws) (w .store .slots))
-          ; versions = w .versions
-          ; notes = x .1
-          ; rows = w .rows
-          ; index = w .index
-          }
-      , Ok a )
+    Ok (
+      record {
+        store = with-slots (w .store) (change n (answered (x .0) ws) (w .store .slots));
+        versions = w .versions;
+        notes = x .1;
+        rows = w .rows;
+        index = w .index;
+      },
+      Ok a,
+    )
 
   abbrev pub aborted : World K V → ℕ → World K V
   aborted w n = with-store w (abort-store n (w .store))
@@ -105,14 +106,14 @@ module _ {K V : Type 0} (order : K → K → Ordering) where
     t ← sound-in w n is-active
     met ← reach order w k k
     let waits = waits-after (w .store .slots) n n met (t .waits)
-    elim (first-seen (w .store .slots) n met)
-      [ Some y ↦ conclude c w n t (note-of n k (Some y)) waits answer.Present
+    elim (first-seen (w .store .slots) n met) [
+      | Some y ↦ conclude c w n t (note-of n k (Some y)) waits answer.Present
       | None ↦
           cond (any-newer (w .store .slots) n met) (conflict w n)
           (do
             s ← adding (c .version) n k x (w .versions, w .index)
             conclude c (with-added w s) n t None waits answer.Done)
-      ]
+    ]
 
   -- a new version of the value, if there is one
   abbrev pub adding-if : ℕ → ℕ → K → Option V → List (Entry (Version K V)) × Index K → Checked (List (Entry (Version K V)) × Index K)
@@ -125,8 +126,8 @@ module _ {K V : Type 0} (order : K → K → Ordering) where
     t ← sound-in w n is-active
     met ← reach order w k k
     let waits = waits-after (w .store .slots) n n met (t .waits)
-    elim (first-seen (w .store .slots) n met)
-      [ None ↦ conclude c w n t (Some (noted.Range k k)) waits answer.Absent
+    elim (first-seen (w .store .slots) n met) [
+      | None ↦ conclude c w n t (Some (noted.Range k k)) waits answer.Absent
       | Some y ↦
           cond (made-by n (y .1))
           (conclude c (with-versions w (set (w .versions) (y .0) (filled (altered n new (y .1))))) n t None waits answer.Done)
@@ -134,7 +135,7 @@ module _ {K V : Type 0} (order : K → K → Ordering) where
           (do
             s ← adding-if (c .version) n k new (w .versions, w .index)
             conclude c (with-added w (set (s .0) (y .0) (filled (with-end (end.Owner n) (y .1))), s .1)) n t None waits answer.Done))
-      ]
+    ]
 
   -- the version is a row: it is seen, and no row of its key stands before it
   abbrev pub shows : Slots → ℕ → Option K → Version K V → Bool

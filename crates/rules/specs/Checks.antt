@@ -19,7 +19,6 @@ use Rattle.rules.specs.declared.Refusal.the-variants as refusal
 use Rattle.rules.specs.Worlds.{World}
 
 infixl 10 _>>=_ _>>_
-
 -- a value, or the first refusal met on the way to it
 abbrev pub Checked : Type 0 → Type 0
 Checked A = Result A Refusal

@@ -92,18 +92,18 @@ module _ {K V : Type 0} (order : K → K → Ordering) where
   abbrev pub Told-in-turn : History K V → Book K V → List ℕ → Type 0
   Told-in-turn h b [] = Unit {0}
   Told-in-turn h b (n ∷ ns) =
-    (T (is-serializable (life h n .level)) → Answered-by order b (life h n .transcript)) × Told-in-turn h (played order b (life h n .transcript)) ns
+      (T (is-serializable (life h n .level)) → Answered-by order b (life h n .transcript)) × Told-in-turn h (played order b (life h n .transcript)) ns
 
   -- the committed transactions have a serial order, by end stamp, and the rows standing are those of the book played in that order
   abbrev pub One-after-the-other : Position K V → Type 0
   One-after-the-other p =
-    Told-in-turn (p .history) [] (serial-order (p .history)) × (standing (p .world) ≡ book-of (p .history) [] (serial-order (p .history)))
+      Told-in-turn (p .history) [] (serial-order (p .history)) × (standing (p .world) ≡ book-of (p .history) [] (serial-order (p .history)))
 
   -- each committed transaction was answered as of its begin stamp
   abbrev pub One-moment : Position K V → Type 0
   One-moment p =
-    (n : ℕ) → T (life (p .history) n .committed) →
-    Answered-by order (book-of (p .history) [] (keep (λ m. ltb (stamp-of (p .history) m) n) (serial-order (p .history)))) (life (p .history) n .transcript)
+      (n : ℕ) → T (life (p .history) n .committed) →
+      Answered-by order (book-of (p .history) [] (keep (λ m. ltb (stamp-of (p .history) m) n) (serial-order (p .history)))) (life (p .history) n .transcript)
 
   -- prepared at the end stamp e, and neither committed, aborted nor doomed
   pub record Pending (p : Position K V) (n e : ℕ) : Type 0 where
@@ -115,8 +115,8 @@ module _ {K V : Type 0} (order : K → K → Ordering) where
   -- of those pending the first by end stamp, if validated, has its commit accepted as the next call
   abbrev pub First-commits : Position K V → Type 0
   First-commits p =
-    (n e : ℕ) → Pending p n e → ((m d : ℕ) → Pending p m d → e ≤ d) → T (life (p .history) n .validated) →
-    (c : Choice) → rule order c (p .world) (call.Commit n) .1 ≡ Ok answer.Done
+      (n e : ℕ) → Pending p n e → ((m d : ℕ) → Pending p m d → e ≤ d) → T (life (p .history) n .validated) →
+      (c : Choice) → rule order c (p .world) (call.Commit n) .1 ≡ Ok answer.Done
 
   abbrev pub Lawful : Position K V → Type 0
   Lawful p = One-after-the-other p × One-moment p × First-commits p

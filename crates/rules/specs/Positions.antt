@@ -77,16 +77,16 @@ expected ls = map (λ l. l .1) ls
 -- tables of eight entries, not yet opened
 abbrev pub new-world : Position ℕ ℕ
 new-world =
-  record
-    { world =
-        record
-          { store = record { opened = None; last = 0; commits = 0; aborts = 0; slots = [] }
-          ; versions = replicate 8 emptied
-          ; notes = replicate 8 emptied
-          ; rows = replicate 4 (record { key = 0; value = 0 })
-          ; index = record { pairs = []; capacity = 8 }
-          }
-    ; history = []
+    record {
+      world =
+          record {
+            store = record { opened = None; last = 0; commits = 0; aborts = 0; slots = [] };
+            versions = replicate 8 emptied;
+            notes = replicate 8 emptied;
+            rows = replicate 4 (record { key = 0; value = 0 });
+            index = record { pairs = []; capacity = 8 };
+          };
+      history = [];
     }
 
 infix 20 _⊢_
@@ -100,29 +100,29 @@ a ⊬ r = (ask a, answers (Err r))
 -- 10 holds 5, 20 holds 7, the last stamp is 2, and no transaction is live
 abbrev pub start : List Line
 start =
-  (Open 0 ⊢ Done)
-  ∷ (Begin Serializable ⊢ Stamp 1)
-  ∷ (Book 1 (Insert 10 5) ⊢ Done)
-  ∷ (Book 1 (Insert 20 7) ⊢ Done)
-  ∷ (Prepare 1 ⊢ Stamp 2)
-  ∷ (Validate 1 ⊢ Done)
-  ∷ (Commit 1 ⊢ Done)
-  ∷ (Finish 1 ⊢ Done)
-  ∷ []
+    (Open 0 ⊢ Done)
+    ∷ (Begin Serializable ⊢ Stamp 1)
+    ∷ (Book 1 (Insert 10 5) ⊢ Done)
+    ∷ (Book 1 (Insert 20 7) ⊢ Done)
+    ∷ (Prepare 1 ⊢ Stamp 2)
+    ∷ (Validate 1 ⊢ Done)
+    ∷ (Commit 1 ⊢ Done)
+    ∷ (Finish 1 ⊢ Done)
+    ∷ []
 
 abbrev pub crossed : Level → List Line
 crossed level =
-  (Begin level ⊢ Stamp 3)
-  ∷ (Begin level ⊢ Stamp 4)
-  ∷ (Book 3 (Read 20) ⊢ Value 7)
-  ∷ (Book 4 (Read 10) ⊢ Value 5)
-  ∷ (Book 3 (Update 10 6) ⊢ Done)
-  ∷ (Book 4 (Update 20 8) ⊢ Done)
-  ∷ (Prepare 3 ⊢ Stamp 5)
-  ∷ (Validate 3 ⊢ Done)
-  ∷ (Commit 3 ⊢ Done)
-  ∷ (Prepare 4 ⊢ Stamp 6)
-  ∷ []
+    (Begin level ⊢ Stamp 3)
+    ∷ (Begin level ⊢ Stamp 4)
+    ∷ (Book 3 (Read 20) ⊢ Value 7)
+    ∷ (Book 4 (Read 10) ⊢ Value 5)
+    ∷ (Book 3 (Update 10 6) ⊢ Done)
+    ∷ (Book 4 (Update 20 8) ⊢ Done)
+    ∷ (Prepare 3 ⊢ Stamp 5)
+    ∷ (Validate 3 ⊢ Done)
+    ∷ (Commit 3 ⊢ Done)
+    ∷ (Prepare 4 ⊢ Stamp 6)
+    ∷ []
 
 -- prepare, validate and commit, with the end stamp
 abbrev pub committed-at : ℕ → ℕ → List Line
@@ -130,15 +130,15 @@ committed-at n e = (Prepare n ⊢ Stamp e) ∷ (Validate n ⊢ Done) ∷ (Commit
 
 abbrev pub waiting : List Line
 waiting =
-  (Begin Serializable ⊢ Stamp 3)
-  ∷ (Book 3 (Update 10 6) ⊢ Done)
-  ∷ (Prepare 3 ⊢ Stamp 4)
-  ∷ (Begin Serializable ⊢ Stamp 5)
-  ∷ (Book 5 (Read 10) ⊢ Value 6)
-  ∷ (Prepare 5 ⊢ Stamp 6)
-  ∷ (Validate 5 ⊢ Done)
-  ∷ (Commit 5 ⊬ refusal.Waiting 1)
-  ∷ []
+    (Begin Serializable ⊢ Stamp 3)
+    ∷ (Book 3 (Update 10 6) ⊢ Done)
+    ∷ (Prepare 3 ⊢ Stamp 4)
+    ∷ (Begin Serializable ⊢ Stamp 5)
+    ∷ (Book 5 (Read 10) ⊢ Value 6)
+    ∷ (Prepare 5 ⊢ Stamp 6)
+    ∷ (Validate 5 ⊢ Done)
+    ∷ (Commit 5 ⊬ refusal.Waiting 1)
+    ∷ []
 
 abbrev pub both : Level → List Line
 both level = (Begin level ⊢ Stamp 3) ∷ (Begin level ⊢ Stamp 4) ∷ []
@@ -149,40 +149,40 @@ late-insert = (Book 4 (Insert 15 1) ⊢ Done) ∷ committed-at 4 5 ++ ((Prepare 
 -- each is played from the start
 abbrev pub positions : List (List Line)
 positions =
-  -- both update 10
-  (both Serializable ++ ((Book 3 (Update 10 6) ⊢ Done) ∷ (Book 4 (Update 10 9) ⊬ refusal.Conflict) ∷ []))
-  -- each updates what the other has read
-  ∷ (crossed Serializable ++ ((Validate 4 ⊬ refusal.Validation) ∷ []))
-  ∷ (crossed Snapshot ++ ((Validate 4 ⊢ Done) ∷ (Commit 4 ⊢ Done) ∷ []))
-  -- 5 reads what 3 has prepared, and 3 commits
-  ∷ (waiting ++ ((Validate 3 ⊢ Done) ∷ (Commit 3 ⊢ Done) ∷ (Commit 5 ⊢ Done) ∷ []))
-  -- the same, and 3 aborts
-  ∷ (waiting ++ ((Abort 3 ⊢ Done) ∷ (Commit 5 ⊬ refusal.Doomed) ∷ []))
-  -- 4 inserts into a range that 3 has scanned
-  ∷ (both Serializable ++ ((Book 3 (Scan 0 100) ⊢ Number 2) ∷ late-insert))
-  -- 4 inserts a key that 3 has read as absent
-  ∷ (both Serializable ++ ((Book 3 (Read 15) ⊢ Absent) ∷ late-insert))
-  -- 3 aborts, and its version is updated by 4 before 3 finishes
-  ∷ ( both Serializable
-      ++ ( (Book 3 (Update 10 6) ⊢ Done)
-         ∷ (Abort 3 ⊢ Done)
-         ∷ (Book 4 (Update 10 9) ⊢ Done)
-         ∷ (Finish 3 ⊢ Done)
-         ∷ (end-at 0, ends (Some (end.Owner 4)))
-         ∷ [] ) )
-  -- 4 commits before 3, which has the lower end stamp
-  ∷ ( both Serializable
-      ++ ( (Book 3 (Update 10 6) ⊢ Done)
-         ∷ (Book 4 (Update 20 9) ⊢ Done)
-         ∷ (Prepare 3 ⊢ Stamp 5)
-         ∷ (Prepare 4 ⊢ Stamp 6)
-         ∷ (Validate 4 ⊢ Done)
-         ∷ (Commit 4 ⊢ Done)
-         ∷ (Validate 3 ⊢ Done)
-         ∷ (Commit 3 ⊢ Done)
-         ∷ (order-played, plays (1 ∷ 3 ∷ 4 ∷ []))
-         ∷ [] ) )
-  ∷ []
+    -- both update 10
+    (both Serializable ++ ((Book 3 (Update 10 6) ⊢ Done) ∷ (Book 4 (Update 10 9) ⊬ refusal.Conflict) ∷ []))
+    -- each updates what the other has read
+    ∷ (crossed Serializable ++ ((Validate 4 ⊬ refusal.Validation) ∷ []))
+    ∷ (crossed Snapshot ++ ((Validate 4 ⊢ Done) ∷ (Commit 4 ⊢ Done) ∷ []))
+    -- 5 reads what 3 has prepared, and 3 commits
+    ∷ (waiting ++ ((Validate 3 ⊢ Done) ∷ (Commit 3 ⊢ Done) ∷ (Commit 5 ⊢ Done) ∷ []))
+    -- the same, and 3 aborts
+    ∷ (waiting ++ ((Abort 3 ⊢ Done) ∷ (Commit 5 ⊬ refusal.Doomed) ∷ []))
+    -- 4 inserts into a range that 3 has scanned
+    ∷ (both Serializable ++ ((Book 3 (Scan 0 100) ⊢ Number 2) ∷ late-insert))
+    -- 4 inserts a key that 3 has read as absent
+    ∷ (both Serializable ++ ((Book 3 (Read 15) ⊢ Absent) ∷ late-insert))
+    -- 3 aborts, and its version is updated by 4 before 3 finishes
+    ∷ (both Serializable
+    ++ ((Book 3 (Update 10 6) ⊢ Done)
+    ∷ (Abort 3 ⊢ Done)
+    ∷ (Book 4 (Update 10 9) ⊢ Done)
+    ∷ (Finish 3 ⊢ Done)
+    ∷ (end-at 0, ends (Some (end.Owner 4)))
+    ∷ []))
+    -- 4 commits before 3, which has the lower end stamp
+    ∷ (both Serializable
+    ++ ((Book 3 (Update 10 6) ⊢ Done)
+    ∷ (Book 4 (Update 20 9) ⊢ Done)
+    ∷ (Prepare 3 ⊢ Stamp 5)
+    ∷ (Prepare 4 ⊢ Stamp 6)
+    ∷ (Validate 4 ⊢ Done)
+    ∷ (Commit 4 ⊢ Done)
+    ∷ (Validate 3 ⊢ Done)
+    ∷ (Commit 3 ⊢ Done)
+    ∷ (order-played, plays (1 ∷ 3 ∷ 4 ∷ []))
+    ∷ []))
+    ∷ []
 
 -- the rules give exactly the replies of the table
 abbrev pub Positions-hold : Type 0

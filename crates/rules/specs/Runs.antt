@@ -109,8 +109,8 @@ module _ {K V : Type 0} (order : K → K → Ordering) where
   -- the position after one more call
   abbrev pub next : Position K V → Choice → Call K V → Position K V
   next p c a =
-    let r = rule order c (p .world) a in
-    record { world = r .0; history = told a (r .1) (r .0 .rows) (p .history) }
+      let r = rule order c (p .world) a in
+      record { world = r .0; history = told a (r .1) (r .0 .rows) (p .history) }
 
   -- the positions that runs come to: by an accepted open of any world, and then by any calls, refused ones included,
   -- each with whatever row table the caller lends it

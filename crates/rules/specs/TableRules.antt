@@ -56,15 +56,16 @@ module _ {K V : Type 0} where
   abbrev pub finish-rule : World K V → ℕ → Outcome K V
   finish-rule w n = do
     t ← named-in w n is-over
-    Ok
-      ( record
-          { store = with-slots (w .store) (unseat n (w .store .slots))
-          ; versions = map (settle-entry (w .store .last) n (t .phase)) (w .versions)
-          ; notes = map (without-note n) (w .notes)
-          ; rows = w .rows
-          ; index = w .index
-          }
-      , Ok answer.Done )
+    Ok (
+      record {
+        store = with-slots (w .store) (unseat n (w .store .slots));
+        versions = map (settle-entry (w .store .last) n (t .phase)) (w .versions);
+        notes = map (without-note n) (w .notes);
+        rows = w .rows;
+        index = w .index;
+      },
+      Ok answer.Done,
+    )
 
   -- the version is to be swept
   abbrev pub to-sweep : Slots → Option (Version K V) → Bool
@@ -79,15 +80,16 @@ module _ {K V : Type 0} (order : K → K → Ordering) where
   open-rule w stamp = do
     refuse-if (not (allowed (length (w .versions)) (length (w .notes)) (w .index .capacity))) refusal.Lengths
     refuse-if (ltb largest stamp) refusal.OpeningStamp
-    Ok
-      ( record
-          { store = opened-store (length (w .versions)) (length (w .notes)) stamp
-          ; versions = replicate (length (w .versions)) emptied
-          ; notes = replicate (length (w .notes)) emptied
-          ; rows = w .rows
-          ; index = clear order (w .index)
-          }
-      , Ok answer.Done )
+    Ok (
+      record {
+        store = opened-store (length (w .versions)) (length (w .notes)) stamp;
+        versions = replicate (length (w .versions)) emptied;
+        notes = replicate (length (w .notes)) emptied;
+        rows = w .rows;
+        index = clear order (w .index);
+      },
+      Ok answer.Done,
+    )
 
   -- the pair is that of a version to be swept, by its key and place
   abbrev pub sweeps-pair : Slots → List (Entry (Version K V)) → K × ℕ → Bool
@@ -96,12 +98,13 @@ module _ {K V : Type 0} (order : K → K → Ordering) where
   abbrev pub sweep-rule : World K V → Outcome K V
   sweep-rule w = do
     refuse-if (not (in-order w)) refusal.Lengths
-    Ok
-      ( record
-          { store = w .store
-          ; versions = map (swept-entry (w .store .slots)) (w .versions)
-          ; notes = w .notes
-          ; rows = w .rows
-          ; index = record { pairs = keep (λ x. not (sweeps-pair (w .store .slots) (w .versions) x)) (w .index .pairs); capacity = w .index .capacity }
-          }
-      , Ok (answer.Number (count (λ x. to-sweep (w .store .slots) (x .held)) (w .versions))) )
+    Ok (
+      record {
+        store = w .store;
+        versions = map (swept-entry (w .store .slots)) (w .versions);
+        notes = w .notes;
+        rows = w .rows;
+        index = record { pairs = keep (λ x. not (sweeps-pair (w .store .slots) (w .versions) x)) (w .index .pairs); capacity = w .index .capacity };
+      },
+      Ok (answer.Number (count (λ x. to-sweep (w .store .slots) (x .held)) (w .versions))),
+    )

@@ -74,14 +74,14 @@ module _ {K V : Type 0} (order : K → K → Ordering) where
   test-all ts vs n e (x ∷ xs) ws = do
     y ← reached order ts vs (x .pair)
     cond (own-work n (y .1)) (test-all ts vs n e xs ws)
-      (cond (passes ts n e (x .must-show) (y .1)) (test-all ts vs n e xs (mark ts (waits-for ts n e (y .1)) ws)) (Ok None))
+        (cond (passes ts n e (x .must-show) (y .1)) (test-all ts vs n e xs (mark ts (waits-for ts n e (y .1)) ws)) (Ok None))
 
   abbrev pub validate-rule : World K V → ℕ → Outcome K V
   validate-rule w n = do
     t ← sound-in w n (λ p. isSome (if-preparing p))
     e ← some-or refusal.Phase (if-preparing (t .phase))
     verdict ← cond (is-serializable (t .level)) (test-all (w .store .slots) (w .versions) n e (tests-for order (w .index) n (w .notes)) (t .waits)) (Ok (Some (t .waits)))
-    elim verdict
-      [ None ↦ Ok (aborted w n, Err refusal.Validation)
+    elim verdict [
+      | None ↦ Ok (aborted w n, Err refusal.Validation)
       | Some ws ↦ Ok (with-store w (with-slots (w .store) (change n (validated e ws) (w .store .slots))), Ok answer.Done)
-      ]
+    ]

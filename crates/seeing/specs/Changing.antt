@@ -85,4 +85,4 @@ module _ {K V : Type 0} where
   settle last n (Validated e) v = v
   settle last n (Committed e) v = with-begin (settle-begin n e (v .begin)) (with-end (settle-end n (end.Stamp e) (v .end)) v)
   settle last n Aborted v =
-    cond (made-by n v) (with-begin (begin.Stamp last) (with-end (end.Stamp last) v)) (with-end (settle-end n end.Open (v .end)) v)
+      cond (made-by n v) (with-begin (begin.Stamp last) (with-end (end.Stamp last) v)) (with-end (settle-end n end.Open (v .end)) v)

@@ -43,4 +43,4 @@ module _ {K V : Type 0} where
   -- whom it waits on once it has tested the version at the time: the maker of a version that it sees, or who ended one that has begun, if that one is preparing
   abbrev pub waits-for : Slots → ℕ → ℕ → Version K V → Option ℕ
   waits-for ts n time v =
-    cond (begun ts n time v) (preparing-other ts n (cond (ended ts n time v) (v .end) (as-end (v .begin)))) None
+      cond (begun ts n time v) (preparing-other ts n (cond (ended ts n time v) (v .end) (as-end (v .begin)))) None

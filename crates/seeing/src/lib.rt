@@ -1,6 +1,25 @@
 // Versions and transactions: who sees which version and whom it then waits on, which versions tell against a change,
 // and what a version becomes when a transaction that it names is finished.
 
+mod changes;
+mod marks;
+mod phases;
+mod sight;
+
+pub use changes::altered;
+pub use changes::is_known;
+pub use changes::is_locked;
+pub use changes::is_too_new;
+pub use changes::settled;
+pub use sight::find;
+pub use sight::has_happened;
+pub use sight::phase_of;
+pub use sight::sees;
+pub use sight::waits_for;
+
+/// The slots of a store, each with a transaction or none.
+pub type Slots = [Option<Transaction>; 64];
+
 /// When a version begins: at a stamp, or at the end stamp of the transaction named.
 #[derive(Clone, Copy)]
 pub enum Begin {
