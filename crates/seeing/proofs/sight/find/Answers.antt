@@ -38,8 +38,8 @@ named-by ts n r e = find-found ts n 0 ∙ ap (mapped (λ (x : ℕ × Transaction
 
 pub returns-then-t-name : need.returns-then-t-name
 returns-then-t-name c =
-  let e : Some (c .loop-i .i, c .in-Some .t) ≡ found (c .args .slots .now) (c .args .name) 0 = sym (c .loop-i .inv .0 ∙ hit (c .args .slots .now) _ _ (c .in-Some .t) (omega arith) (c .in-Some .is) (c .if-t-name .taken)) in
-  record { inside = c .loop-i-test .taken; finds = e; named = named-by (c .args .slots .now) (c .args .name) _ e }
+    let e : Some (c .loop-i .i, c .in-Some .t) ≡ found (c .args .slots .now) (c .args .name) 0 = sym (c .loop-i .inv .0 ∙ hit (c .args .slots .now) _ _ (c .in-Some .t) (omega arith) (c .in-Some .is) (c .if-t-name .taken)) in
+    record { inside = c .loop-i-test .taken; finds = e; named = named-by (c .args .slots .now) (c .args .name) _ e }
 
 pub loop-i-again : need.loop-i-again
 loop-i-again c = (
@@ -53,5 +53,5 @@ loop-i-again c = (
 
 pub returns : need.returns
 returns c =
-  let e : None ≡ found (c .args .slots .now) (c .args .name) 0 = sym (c .loop-i .inv .0 ∙ ap (λ (xs : Slots). found xs (c .args .name) (c .loop-i .i)) (drop-all (c .loop-i .i) (c .args .slots .now) (omega arith))) in
-  record { inside = tt; finds = e; named = named-by (c .args .slots .now) (c .args .name) _ e }
+    let e : None ≡ found (c .args .slots .now) (c .args .name) 0 = sym (c .loop-i .inv .0 ∙ ap (λ (xs : Slots). found xs (c .args .name) (c .loop-i .i)) (drop-all (c .loop-i .i) (c .args .slots .now) (omega arith))) in
+    record { inside = tt; finds = e; named = named-by (c .args .slots .now) (c .args .name) _ e }
