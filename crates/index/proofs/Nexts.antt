@@ -8,7 +8,7 @@ use native.Mathlib.Omega.{arith}
 use Rattle.std.specs.declared.cmp.Ordering.{Ordering}
 use Rattle.std.specs.declared.cmp.Ordering.the-variants.{Less, Equal, Greater}
 use Rattle.std.specs.declared.option.Option.the-variants.{Some, None}
-use Rattle.std.specs.Orderings.{isEq, isLt, isLe, reversed}
+use Rattle.std.specs.Orderings.{isEq, isLt, isLe, isGt, reversed}
 use Rattle.std.specs.Scanned.{Distinct}
 use Rattle.std.proofs.shelf.Tests.{both-ways, and-parts}
 use Rattle.keys.specs.Laws.{TotalOrder}
@@ -17,10 +17,20 @@ use Rattle.index.specs.Listed.{from-on, Next}
 use Rattle.index.proofs.Pairs.{Lt, Le, false-unless, three, lt-parts, le-parts, lt-key, less-not-same, le-unless}
 use Rattle.index.proofs.Listing.{none-from, some-from}
 
-pub not-greater : (r : Ordering) → (r ≡ Greater → ⊥) → isLe r ≡ true
-not-greater Less h = refl
-not-greater Equal h = refl
-not-greater Greater h = absurd (h refl)
+pub is-greater : (r : Ordering) → isGt r ≡ true → r ≡ Greater
+is-greater Less e = absurd (true≢false (sym e))
+is-greater Equal e = absurd (true≢false (sym e))
+is-greater Greater e = refl
+
+pub is-equal : (r : Ordering) → isEq r ≡ true → r ≡ Equal
+is-equal Less e = absurd (true≢false (sym e))
+is-equal Equal e = refl
+is-equal Greater e = absurd (true≢false (sym e))
+
+pub not-beyond : (r : Ordering) → isGt r ≡ false → isLe r ≡ true
+not-beyond Less e = refl
+not-beyond Equal e = refl
+not-beyond Greater e = absurd (true≢false e)
 
 module _ {K : Type 0} (o : K → K → Ordering) (laws : TotalOrder o) where
   above-key : (k l : K) → o k l ≡ Less → isLe (o l k) ≡ true → ⊥

@@ -6,9 +6,9 @@ ghost use lib.ListN.{length};
 ghost use Rattle.std.specs.Scanned.{Distinct};
 ghost use Rattle.index.specs.Sets.{tie, holds, Lowest, LowestKey};
 ghost use Rattle.index.specs.Answers.{PutSays, RemoveSays};
+ghost use Rattle.std.specs.Orderings.{isEq, isGt};
 ghost use Rattle.index.specs.Listed.{Next};
 use keys::Key;
-use std::cmp::Ordering;
 
 /// What `put` says of a pair that now is in the set.
 #[derive(Clone, Copy, PartialEq, Eq, Debug)]
@@ -65,29 +65,37 @@ pub trait Index {
         ensures limit { λ _. ⌜ limit (now (self .exit)) ≡ limit (now (self .entry)) ⌝ };
 }
 
-/// The first pair not below (key, from) in the order of pairs whose key is not above `upper`.
-pub fn next_pair<I: Index>(
-    index: &I,
-    key: I::Key,
-    from: usize,
-    upper: I::Key,
-) -> Option<(I::Key, usize)>
+// The key is above the upper one.
+fn is_beyond<K: Key>(key: &K, upper: &K) -> bool
+    ensures { λ r. ⌜ r ≡ isGt (K·Key .order (now (key .entry)) (now (upper .entry))) ⌝ }
+{
+    key.compare(upper).is_gt()
+}
+
+// The key is the upper one.
+fn is_last<K: Key>(key: &K, upper: &K) -> bool
+    ensures { λ r. ⌜ r ≡ isEq (K·Key .order (now (key .entry)) (now (upper .entry))) ⌝ }
+{
+    key.compare(upper).is_eq()
+}
+
+/// The first pair not below (key, from), by key and then place, whose key is not above `upper`.
+pub fn next_pair<I: Index>(index: &I, key: I::Key, from: usize, upper: I::Key) -> Option<(I::Key, usize)>
     ensures { λ r. ⌜ Next (Key·Key .order) key from upper (pairs (now (index .entry))) r ⌝ }
 {
-    let against = key.compare(&upper);
-    if let Ordering::Greater = against {
+    if is_beyond(&key, &upper) {
         return None;
     }
     if let Some(place) = index.next_place(key, from) {
         return Some((key, place));
     }
-    if let Ordering::Equal = against {
+    if is_last(&key, &upper) {
         return None;
     }
     let Some(next) = index.next_key(key, true) else {
         return None;
     };
-    if let Ordering::Greater = next.compare(&upper) {
+    if is_beyond(&next, &upper) {
         return None;
     }
     match index.next_place(next, 0) {
