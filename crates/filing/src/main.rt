@@ -94,52 +94,80 @@ fn list<K: Key + Display + Drop, I: Index<Key = K>>(
     Ok(())
 }
 
-// The deck has five cards, in no order; the index has room for six pairs.
+// The deck, in no order.
+struct Deck<K> {
+    highest: K,
+    lowest: K,
+    moved: K,
+    second: K,
+    middle: K,
+}
+
+// Five cards, and room for six pairs.
 fn file_deck<K: Key + Display + Drop, I: Index<Key = K>>(
     rt: &impl Print,
     index: &mut I,
-    deck: [K; 5],
+    deck: Deck<K>,
 ) -> io::Result<()> {
-    for i in 0..5usize {
-        file_one(rt, index, deck[i], i * 10)?;
-    }
-    file_one(rt, index, deck[2], 20)?;
-    look_up(rt, index, deck[2])?;
-    move_one(rt, index, deck[2], 20, 7)?;
-    look_up(rt, index, deck[2])?;
-    move_one(rt, index, deck[2], 20, 8)?;
-    next_card(rt, index, deck[1])?;
-    next_card(rt, index, deck[0])?;
-    file_one(rt, index, deck[3], 99)?;
-    println!(rt, "from {} to {}:", deck[1], deck[0])?;
-    list(rt, index, deck[1], deck[0])?;
+    let Deck {
+        highest,
+        lowest,
+        moved,
+        second,
+        middle,
+    } = deck;
+    file_one(rt, index, highest, 0)?;
+    file_one(rt, index, lowest, 10)?;
+    file_one(rt, index, moved, 20)?;
+    file_one(rt, index, second, 30)?;
+    file_one(rt, index, middle, 40)?;
+    move_about(rt, index, moved)?;
+    next_card(rt, index, lowest)?;
+    next_card(rt, index, highest)?;
+    file_one(rt, index, second, 99)?;
+    file_one(rt, index, moved, 7)?;
+    println!(rt, "from {lowest} to {highest}:")?;
+    list(rt, index, lowest, highest)?;
     index.clear();
-    look_up(rt, index, deck[2])?;
-    next_card(rt, index, deck[1])
+    look_up(rt, index, moved)?;
+    next_card(rt, index, lowest)
 }
 
-fn cards() -> [CardNumber; 5] {
-    [
-        CardNumber(4294967295),
-        CardNumber(0),
-        CardNumber(261),
-        CardNumber(5),
-        CardNumber(40),
-    ]
+// A card that lies at 20 is filed again, looked up and moved, to 7 and then, from where it no longer is, to 8.
+fn move_about<K: Key + Display + Drop, I: Index<Key = K>>(
+    rt: &impl Print,
+    index: &mut I,
+    key: K,
+) -> io::Result<()> {
+    file_one(rt, index, key, 20)?;
+    look_up(rt, index, key)?;
+    move_one(rt, index, key, 20, 7)?;
+    look_up(rt, index, key)?;
+    move_one(rt, index, key, 20, 8)
+}
+
+fn cards() -> Deck<CardNumber> {
+    Deck {
+        highest: CardNumber(4294967295),
+        lowest: CardNumber(0),
+        moved: CardNumber(261),
+        second: CardNumber(5),
+        middle: CardNumber(40),
+    }
 }
 
 fn at(seat: u8, zone: u8, slot: u8) -> BoardPlace {
     BoardPlace { seat, zone, slot }
 }
 
-fn places() -> [BoardPlace; 5] {
-    [
-        at(4, 0, 0),
-        at(0, 0, 0),
-        at(1, 2, 3),
-        at(0, 2, 3),
-        at(1, 2, 0),
-    ]
+fn places() -> Deck<BoardPlace> {
+    Deck {
+        highest: at(4, 0, 0),
+        lowest: at(0, 0, 0),
+        moved: at(1, 2, 3),
+        second: at(0, 2, 3),
+        middle: at(1, 2, 0),
+    }
 }
 
 fn run(rt: &LibcRuntime) -> Result<(), AnyError> {

@@ -80,7 +80,12 @@ fn is_last<K: Key>(key: &K, upper: &K) -> bool
 }
 
 /// The first pair not below (key, from), by key and then place, whose key is not above `upper`.
-pub fn next_pair<I: Index>(index: &I, key: I::Key, from: usize, upper: I::Key) -> Option<(I::Key, usize)>
+pub fn next_pair<I: Index>(
+    index: &I,
+    key: I::Key,
+    from: usize,
+    upper: I::Key,
+) -> Option<(I::Key, usize)>
     ensures { λ r. ⌜ Next (Key·Key .order) key from upper (pairs (now (index .entry))) r ⌝ }
 {
     if is_beyond(&key, &upper) {

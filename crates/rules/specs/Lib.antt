@@ -17,3 +17,4 @@ pub mod Book
 pub mod Runs
 pub mod Law
 pub mod Positions
+pub mod Example

@@ -78,7 +78,7 @@ module _ {K V : Type 0} where
   life [] n = record { level = Snapshot; transcript = []; stamp = None; validated = false; committed = false; aborted = false }
   life (x ∷ h) n = cond (eqb (x .0) n) (lived (life h n) (x .1)) (life h n)
 
-  -- the event-of of an accepted call; refusals 8 and 15 abort the transaction, and the others do nothing
+  -- the event of an accepted call; refusals 8 and 15 abort the transaction, and the others do nothing
   abbrev pub event-of : ℕ → Checked (Answer V) → Event K V → History K V
   event-of n (Ok a) d = (n, d) ∷ []
   event-of n (Err r) d = cond (eqb (number r) 8 || eqb (number r) 15) ((n, Aborted) ∷ []) []

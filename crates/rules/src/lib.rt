@@ -1,8 +1,11 @@
 // The store's tables, calls, answers and refusals. What the calls do is defined in specs/ over these types.
 ghost use mathlib.Core.Path.{_≡_};
 ghost use Rattle.std.specs.declared.option.Option.the-variants.{Some, None};
+ghost use Rattle.rules.specs.Example.{Example};
 ghost use Rattle.rules.specs.Positions.{Positions-hold};
+ghost use Rattle.rules.specs.Law.{Serial-law};
 use index::IndexFault;
+use keys::Key;
 use seeing::Level;
 use seeing::Transaction;
 
@@ -138,6 +141,20 @@ pub enum Answer<V> {
 /// The rules give the answers of the table of played positions.
 pub fn played_positions_hold() -> u8
     ensures { λ _. ⌜ Positions-hold ⌝ }
+{
+    0
+}
+
+/// Every run keeps the law, for every kind of key and of value: the committed transactions have a serial order.
+pub fn law_holds<K: Key, V>() -> u8
+    ensures { λ _. ⌜ Serial-law K V (K·Key .order) ⌝ }
+{
+    0
+}
+
+/// The run of specs/Example.antt is a run, with the answers listed there.
+pub fn example_is_run() -> u8
+    ensures { λ _. ⌜ Example ⌝ }
 {
     0
 }
