@@ -88,8 +88,12 @@ fn yes_or_no(b: bool) -> Told {
     if b { Told::Yes } else { Told::No }
 }
 
-fn ask<K: Key + Drop, I: Index<Key = K>>(index: &mut I, keys: &[K; 6], ask: Ask) -> Told {
-    match ask {
+fn answer_to<K: Key + Drop, I: Index<Key = K>>(
+    index: &mut I,
+    keys: &[K; 6],
+    question: Ask,
+) -> Told {
+    match question {
         Ask::Put(k, place) => match index.put(keys[k % 6], place) {
             Ok(Put::Added) => Told::Added,
             Ok(Put::Present) => Told::Present,
@@ -112,7 +116,7 @@ fn ask<K: Key + Drop, I: Index<Key = K>>(index: &mut I, keys: &[K; 6], ask: Ask)
 fn play<K: Key + Drop, I: Index<Key = K>>(index: &mut I, keys: [K; 6]) -> Result<(), Fail> {
     for i in 0..30usize {
         let (question, told) = CASES[i];
-        check_eq(ask(index, &keys, question), told).note(i)?;
+        check_eq(answer_to(index, &keys, question), told).note(i)?;
     }
     Ok(())
 }
