@@ -1,15 +1,15 @@
 -- What each write leaves of the links and the heads. Assumes nothing.
 use mathlib.Core.Path.{_≡_, refl, sym, ap, subst, _∙_}
-use mathlib.Core.Bool.{Bool, true, false, cond}
+use mathlib.Core.Bool.{cond}
 use mathlib.Core.List.{List, [], _∷_, _++_}
-use mathlib.Core.Logic.{_≢_, ⊎-elim}
-use Prim.Native.Nat.{ℕ, zero, suc, _+_, _-_, _≤_, _<_}
+use mathlib.Core.Logic.{⊎-elim}
+use Prim.Native.Nat.{ℕ, suc, _+_, _≤_, _<_}
 use native.Mathlib.Omega.{arith}
 use lib.Dec.{eqb}
 use lib.ListN.{length, getD, set, take}
 use Rattle.std.proofs.shelf.Lists.{length-set, length-push, length-take-le, getD-set-same, getD-set-other, getD-past, getD-push, getD-append-left, getD-take}
 use Rattle.std.proofs.shelf.Tests.{eq-eqb, ne-eqb, cases-eq, cases-lt, cases-order, cond-true, cond-false}
-use Rattle.chains.specs.Chained.{last-of, Linked, Headed, Right}
+use Rattle.chains.specs.Chained.{last-of, Right}
 use Rattle.chains.proofs.Lasts.{last-low, last-at, last-past, last-same, gap-none, gap-other, gap-keeps, gap-skips, fill-keeps, fill-above, fill-here}
 
 two-ways : (cs : List ℕ) {c d m n : ℕ} → c ≡ d → m ≡ n → last-of c cs m ≡ last-of d cs n
@@ -321,15 +321,7 @@ pop-right cs ls hs m c r long at small =
           (cases-eq c d);
     }
 
--- no position, and no chain
-pub none-right : (hs : List ℕ) → length hs ≡ 256 → ((c : ℕ) → c < 256 → getD hs c 0 ≡ 0) → Right [] [] hs
-none-right hs f z = record {
-  even = refl;
-  fixed = f;
-  links = λ j h. absurd (omega arith);
-  heads = z;
-}
-
+-- the same of equal lists
 pub right-by : {cs ds ls ms hs gs : List ℕ} → cs ≡ ds → ls ≡ ms → hs ≡ gs → Right cs ls hs → Right ds ms gs
 right-by {cs} {ds} {ls} {ms} {hs} {gs} a b d r =
     subst (λ x. Right x ms gs) a (subst (λ x. Right cs x gs) b (subst (λ x. Right cs ls x) d r))

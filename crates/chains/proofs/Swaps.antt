@@ -2,7 +2,7 @@
 use mathlib.Core.Path.{_≡_, refl, sym, ap, subst, _∙_}
 use mathlib.Core.Bool.{Bool, true, false, not, _&&_, _||_, true≢false}
 use mathlib.Core.List.{List, [], _∷_, _++_}
-use Prim.Native.Nat.{ℕ, zero, suc, _+_, _-_, _≤_, _<_}
+use Prim.Native.Nat.{ℕ, zero, suc, _+_, _<_}
 use native.Mathlib.Omega.{arith}
 use lib.ListN.{length, getD, set, take}
 use Rattle.std.specs.declared.cmp.Ordering.{Ordering}
@@ -14,7 +14,7 @@ use Rattle.std.proofs.shelf.Lists.{take-more, take-all, getD-take, length-take-
 use Rattle.std.proofs.shelf.Tests.{or-parts}
 use Rattle.keys.specs.Laws.{TotalOrder}
 use Rattle.index.specs.Sets.{tie, holds, plus, minus}
-use Rattle.index.proofs.Pairs.{pair-total, same-tie, tie-itself}
+use Rattle.index.proofs.Pairs.{pair-total, same-tie}
 
 or-turn : (a b c : Bool) → (a || (b || c)) ≡ (b || (a || c))
 or-turn true true c = refl

@@ -1,13 +1,11 @@
 -- Walks along a chain, by positions. Assumes nothing.
-use mathlib.Core.Path.{_≡_, refl, sym, ap, subst, _∙_}
+use mathlib.Core.Path.{_≡_, sym, ap, subst, _∙_}
 use mathlib.Core.List.{List, []}
-use mathlib.Core.Logic.{⊎-elim}
-use Prim.Native.Nat.{ℕ, suc, _+_, _-_, _%_, _≤_, _<_}
+use Prim.Native.Nat.{ℕ, suc, _-_, _≤_, _<_}
 use native.Mathlib.Omega.{arith}
 use lib.Dec.{T}
 use lib.ListN.{length, getD, set}
 use Rattle.std.specs.declared.cmp.Ordering.{Ordering}
-use Rattle.std.specs.Of.Vec.{vec-items}
 use Rattle.std.specs.Scanned.{Distinct}
 use Rattle.std.specs.shelf.Lawful.{distinct-test}
 use Rattle.std.proofs.shelf.Lawful.{test-from-distinct}

@@ -1,12 +1,9 @@
-use mathlib.Core.Path.{_≡_, sym, _∙_}
-use mathlib.Core.List.{List}
-use Prim.Native.Nat.{ℕ, _-_, _≤_, _<_}
+use Prim.Native.Nat.{_-_, _<_}
 use native.Mathlib.Omega.{arith}
-use lib.ListN.{length, getD}
+use lib.ListN.{length}
 use Rattle.std.specs.Of.Vec.{vec-items}
 use Rattle.std.proofs.shelf.Lists.{getD-read}
-use Rattle.chains.specs.Chained.{Wired}
-use Rattle.chains.proofs.Walks.{On, on-head, on-next, next-less}
+use Rattle.chains.proofs.Walks.{on-head, on-next, next-less}
 use Rattle.chains.proofs.engine.Chains.above.Needs as need
 
 pub loop-chain-holds : need.loop-chain-holds

@@ -1,14 +1,14 @@
-use mathlib.Core.Path.{_≡_, refl, sym, ap, _∙_}
-use mathlib.Core.Bool.{false, _||_}
-use Prim.Native.Nat.{ℕ, _-_, _%_, _≤_, _<_}
+use mathlib.Core.Path.{_≡_, sym, ap, _∙_}
+use mathlib.Core.Bool.{_||_}
+use Prim.Native.Nat.{ℕ, _-_, _<_}
 use native.Mathlib.Omega.{arith}
 use lib.ListN.{length, getD, drop}
 use Rattle.std.specs.Of.Vec.{vec-items}
 use Rattle.std.proofs.shelf.Lists.{getD-read, length-map}
-use Rattle.index.specs.Sets.{tie, holds}
+use Rattle.index.specs.Sets.{holds}
 use Rattle.index.proofs.Pairs.{same-tie}
-use Rattle.chains.specs.Chained.{held, bucket, numbers, Right}
-use Rattle.chains.proofs.Walks.{On, on-head, head-is, on-next, next-is, next-less, wired-of}
+use Rattle.chains.specs.Chained.{held, bucket, numbers}
+use Rattle.chains.proofs.Walks.{on-head, head-is, on-next, next-is, next-less, wired-of}
 use Rattle.chains.proofs.Rows.{start-none, step-one}
 use Rattle.chains.proofs.engine.Chains.find.Needs as need
 

@@ -1,11 +1,10 @@
 use mathlib.Core.Path.{_≡_, refl, sym, ap, _∙_}
-use mathlib.Core.List.{List}
-use Prim.Native.Nat.{ℕ, suc, _+_, _-_, _≤_, _<_}
+use Prim.Native.Nat.{suc, _+_, _≤_, _<_}
 use native.Mathlib.Omega.{arith}
 use lib.ListN.{length, getD, set}
 use Rattle.std.specs.Of.Vec.{vec-items}
 use Rattle.std.proofs.shelf.Lists.{getD-read}
-use Rattle.chains.specs.Chained.{held, bucket, numbers}
+use Rattle.chains.specs.Chained.{held, numbers}
 use Rattle.chains.proofs.Links.{link-head, link-link, right-by, gap-in}
 use Rattle.chains.proofs.Walks.{gap-any, number-set}
 use Rattle.chains.proofs.engine.Chains.link_in.Needs as need

@@ -1,5 +1,4 @@
-use Prim.Native.Nat.{_≤_}
-use lib.ListN.{length, take}
+use lib.ListN.{take}
 use Rattle.index.specs.Sets.{LowestKey}
 use Rattle.chains.specs.Chained.{held}
 use Rattle.chains.proofs.engine.Chains.lowest_key.Given as given

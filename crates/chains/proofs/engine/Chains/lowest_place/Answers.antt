@@ -1,13 +1,12 @@
-use mathlib.Core.Path.{_≡_, refl, sym, ap, subst, _∙_}
-use mathlib.Core.Bool.{Bool, _||_}
-use Prim.Native.Nat.{ℕ, _-_, _%_, _≤_, _<_}
+use mathlib.Core.Path.{_≡_, sym, ap, subst, _∙_}
+use Prim.Native.Nat.{ℕ, _≤_, _<_}
 use native.Mathlib.Omega.{arith}
 use lib.ListN.{length, getD, drop}
 use Rattle.std.specs.Of.Vec.{vec-items}
 use Rattle.std.proofs.shelf.Lists.{length-map}
-use Rattle.index.specs.Sets.{tie, holds, Lowest}
+use Rattle.index.specs.Sets.{holds, Lowest}
 use Rattle.chains.specs.Chained.{held, bucket, numbers}
-use Rattle.chains.proofs.Walks.{On, on-head, head-is, on-next, next-is, next-less, wired-of}
+use Rattle.chains.proofs.Walks.{on-head, head-is, on-next, next-is, next-less, wired-of}
 use Rattle.chains.proofs.Rows.{start-none, step-one}
 use Rattle.chains.proofs.Bests.{place-more}
 use Rattle.chains.proofs.engine.Chains.lowest_place.Needs as need

@@ -1,12 +1,10 @@
 use mathlib.Core.Path.{_≡_, refl, sym, ap, _∙_}
-use mathlib.Core.List.{List}
-use mathlib.Core.Logic.{⊎-elim}
-use Prim.Native.Nat.{ℕ, suc, _+_, _-_, _≤_, _<_}
+use Prim.Native.Nat.{suc, _<_}
 use native.Mathlib.Omega.{arith}
 use lib.ListN.{length, getD, set}
 use Rattle.std.specs.Of.Vec.{vec-items}
-use Rattle.std.proofs.shelf.Lists.{getD-read, length-map}
-use Rattle.chains.specs.Chained.{held, bucket, numbers}
+use Rattle.std.proofs.shelf.Lists.{getD-read}
+use Rattle.chains.specs.Chained.{held, numbers}
 use Rattle.chains.proofs.Links.{unlink-head, unlink-link, right-by, link-over, head-over}
 use Rattle.chains.proofs.Walks.{number-at}
 use Rattle.chains.proofs.engine.Chains.unlink.Needs as need
