@@ -1,6 +1,8 @@
 -- Checks in the order of the refusals. Assumes nothing.
 -- The five that chain checks are unfoldable; all else computes. So a proof goes through a rule check by check.
+use mathlib.Core.Path.{_≡_}
 use mathlib.Core.Bool.{Bool, true, false, not, _&&_}
+use mathlib.Core.List.{List}
 use Prim.Native.Nat.{ℕ}
 use lib.Dec.{leb, eqb}
 use lib.ListN.{length}
@@ -13,6 +15,7 @@ use Rattle.seeing.specs.declared.Transaction.{Transaction}
 use Rattle.seeing.specs.Slots.{find}
 use Rattle.rules.specs.declared.Lengths.{Lengths}
 use Rattle.rules.specs.declared.Store.{Store}
+use Rattle.rules.specs.declared.Row.{Row}
 use Rattle.rules.specs.declared.Answer.{Answer}
 use Rattle.rules.specs.declared.Refusal.{Refusal}
 use Rattle.rules.specs.declared.Refusal.the-variants as refusal
@@ -49,6 +52,11 @@ module _ {K V : Type 0} where
   unfoldable pub or-as-found : World K V → Outcome K V → World K V × Checked (Answer V)
   or-as-found w (Ok r) = r
   or-as-found w (Err r) = (w, Err r)
+
+module _ {K V : Type 0} where
+  -- the rule, taken from the world w, leaves w′ and answers r, whatever rows the caller keeps
+  abbrev pub Comes : (World K V → Outcome K V) → (List (Row K V) → World K V) → (List (Row K V) → World K V) → Result (Answer V) Refusal → Type 0
+  Comes rule w w′ r = (rows : List (Row K V)) → or-as-found (w rows) (rule (w rows)) ≡ (w′ rows, r)
 
 -- the largest stamp
 abbrev pub largest : ℕ

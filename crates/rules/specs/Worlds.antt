@@ -29,6 +29,10 @@ module _ {K V : Type 0} where
     pub version : T (any-free (w .versions)) → T (is-free (w .versions) (c .version))
     pub note : T (any-free (w .notes)) → T (is-free (w .notes) (c .note))
 
+  -- the world around a store, for each row table
+  abbrev pub around : Store → List (Entry (Version K V)) → List (Entry (Note K)) → Index K → List (Row K V) → World K V
+  around s vs ns i rows = record { store = s; versions = vs; notes = ns; rows = rows; index = i }
+
   abbrev pub with-store : World K V → Store → World K V
   with-store w s = record { store = s; versions = w .versions; notes = w .notes; rows = w .rows; index = w .index }
 

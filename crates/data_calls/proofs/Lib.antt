@@ -1,0 +1,5 @@
+pub mod Shapes
+pub mod Reading
+pub mod Inserting
+pub mod Altering
+pub mod Scanning

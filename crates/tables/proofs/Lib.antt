@@ -1,0 +1,4 @@
+pub mod Steps
+pub mod Picking
+pub mod Noting
+pub mod Emptying

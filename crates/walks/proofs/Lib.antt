@@ -1,0 +1,4 @@
+pub mod Walking
+pub mod Listing
+pub mod Taking
+pub mod Covering
