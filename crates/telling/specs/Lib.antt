@@ -1,0 +1,2 @@
+-- What is said of an answer.
+pub mod Words
