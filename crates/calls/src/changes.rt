@@ -24,8 +24,8 @@ impl TableStore {
         key: I::Key,
         value: V,
     ) -> Result<Answer<V>, Refusal>
-        ensures answers { AnswersAround I.Key.Key.order (around self.old.store versions.old notes.old (meaning I.Key.Key.order (pairs index.old) (limit index.old))) (around self.new.store versions.new notes.new (meaning I.Key.Key.order (pairs index.new) (limit index.new))) (call.Book transaction (book.Insert key value)) result }
-        ensures does { DoesAround I.Key.Key.order (desk self.old versions.old notes.old (meaning I.Key.Key.order (pairs index.old) (limit index.old))) (desk self.new versions.new notes.new (meaning I.Key.Key.order (pairs index.new) (limit index.new))) (call.Book transaction (book.Insert key value)) result }
+        ensures answers { AnswersAround I.Key.Key.order (around self.old.store versions.old notes.old (meaning I.Key.Key.order (I.pairs index.old) (I.limit index.old))) (around self.new.store versions.new notes.new (meaning I.Key.Key.order (I.pairs index.new) (I.limit index.new))) (call.Book transaction (book.Insert key value)) result }
+        ensures does { DoesAround I.Key.Key.order (desk self.old versions.old notes.old (meaning I.Key.Key.order (I.pairs index.old) (I.limit index.old))) (desk self.new versions.new notes.new (meaning I.Key.Key.order (I.pairs index.new) (I.limit index.new))) (call.Book transaction (book.Insert key value)) result }
         ensures hints { Hinted self.new (hints_after self.old versions.old notes.old (call.Book transaction (book.Insert key value))) }
     {
         self.note_hint = self.note_place(notes, transaction);
@@ -53,8 +53,8 @@ impl TableStore {
         key: I::Key,
         value: V,
     ) -> Result<Answer<V>, Refusal>
-        ensures answers { AnswersAround I.Key.Key.order (around self.old.store versions.old notes.old (meaning I.Key.Key.order (pairs index.old) (limit index.old))) (around self.new.store versions.new notes.new (meaning I.Key.Key.order (pairs index.new) (limit index.new))) (call.Book transaction (book.Update key value)) result }
-        ensures does { DoesAround I.Key.Key.order (desk self.old versions.old notes.old (meaning I.Key.Key.order (pairs index.old) (limit index.old))) (desk self.new versions.new notes.new (meaning I.Key.Key.order (pairs index.new) (limit index.new))) (call.Book transaction (book.Update key value)) result }
+        ensures answers { AnswersAround I.Key.Key.order (around self.old.store versions.old notes.old (meaning I.Key.Key.order (I.pairs index.old) (I.limit index.old))) (around self.new.store versions.new notes.new (meaning I.Key.Key.order (I.pairs index.new) (I.limit index.new))) (call.Book transaction (book.Update key value)) result }
+        ensures does { DoesAround I.Key.Key.order (desk self.old versions.old notes.old (meaning I.Key.Key.order (I.pairs index.old) (I.limit index.old))) (desk self.new versions.new notes.new (meaning I.Key.Key.order (I.pairs index.new) (I.limit index.new))) (call.Book transaction (book.Update key value)) result }
         ensures hints { Hinted self.new (hints_after self.old versions.old notes.old (call.Book transaction (book.Update key value))) }
     {
         self.note_hint = self.note_place(notes, transaction);
@@ -81,8 +81,8 @@ impl TableStore {
         transaction: u64,
         key: I::Key,
     ) -> Result<Answer<V>, Refusal>
-        ensures answers { AnswersAround I.Key.Key.order (around self.old.store versions.old notes.old (meaning I.Key.Key.order (pairs index.old) (limit index.old))) (around self.new.store versions.new notes.new (meaning I.Key.Key.order (pairs index.new) (limit index.new))) (call.Book transaction (book.Delete key)) result }
-        ensures does { DoesAround I.Key.Key.order (desk self.old versions.old notes.old (meaning I.Key.Key.order (pairs index.old) (limit index.old))) (desk self.new versions.new notes.new (meaning I.Key.Key.order (pairs index.new) (limit index.new))) (call.Book transaction (book.Delete key)) result }
+        ensures answers { AnswersAround I.Key.Key.order (around self.old.store versions.old notes.old (meaning I.Key.Key.order (I.pairs index.old) (I.limit index.old))) (around self.new.store versions.new notes.new (meaning I.Key.Key.order (I.pairs index.new) (I.limit index.new))) (call.Book transaction (book.Delete key)) result }
+        ensures does { DoesAround I.Key.Key.order (desk self.old versions.old notes.old (meaning I.Key.Key.order (I.pairs index.old) (I.limit index.old))) (desk self.new versions.new notes.new (meaning I.Key.Key.order (I.pairs index.new) (I.limit index.new))) (call.Book transaction (book.Delete key)) result }
         ensures hints { Hinted self.new (hints_after self.old versions.old notes.old (call.Book transaction (book.Delete key))) }
     {
         self.note_hint = self.note_place(notes, transaction);

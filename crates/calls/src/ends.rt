@@ -22,8 +22,8 @@ impl TableStore {
         index: &I,
         transaction: u64,
     ) -> Result<Answer<V>, Refusal>
-        ensures answers { AnswersAround I.Key.Key.order (around self.old.store versions.now notes.now (meaning I.Key.Key.order (pairs index.now) (limit index.now))) (around self.new.store versions.now notes.now (meaning I.Key.Key.order (pairs index.now) (limit index.now))) (call.Validate transaction) result }
-        ensures does { DoesAround I.Key.Key.order (desk self.old versions.now notes.now (meaning I.Key.Key.order (pairs index.now) (limit index.now))) (desk self.new versions.now notes.now (meaning I.Key.Key.order (pairs index.now) (limit index.now))) (call.Validate transaction) result }
+        ensures answers { AnswersAround I.Key.Key.order (around self.old.store versions.now notes.now (meaning I.Key.Key.order (I.pairs index.now) (I.limit index.now))) (around self.new.store versions.now notes.now (meaning I.Key.Key.order (I.pairs index.now) (I.limit index.now))) (call.Validate transaction) result }
+        ensures does { DoesAround I.Key.Key.order (desk self.old versions.now notes.now (meaning I.Key.Key.order (I.pairs index.now) (I.limit index.now))) (desk self.new versions.now notes.now (meaning I.Key.Key.order (I.pairs index.now) (I.limit index.now))) (call.Validate transaction) result }
         ensures hints { Hinted self.new (hints_after self.old versions.now notes.now (call.Validate transaction)) }
     {
         validate(&mut self.store, versions, notes, index, transaction)
@@ -37,8 +37,8 @@ impl TableStore {
         index: &I,
         transaction: u64,
     ) -> Result<Answer<V>, Refusal>
-        ensures answers { AnswersAround I.Key.Key.order (around self.old.store versions.now notes.now (meaning I.Key.Key.order (pairs index.now) (limit index.now))) (around self.new.store versions.now notes.now (meaning I.Key.Key.order (pairs index.now) (limit index.now))) (call.Commit transaction) result }
-        ensures does { DoesAround I.Key.Key.order (desk self.old versions.now notes.now (meaning I.Key.Key.order (pairs index.now) (limit index.now))) (desk self.new versions.now notes.now (meaning I.Key.Key.order (pairs index.now) (limit index.now))) (call.Commit transaction) result }
+        ensures answers { AnswersAround I.Key.Key.order (around self.old.store versions.now notes.now (meaning I.Key.Key.order (I.pairs index.now) (I.limit index.now))) (around self.new.store versions.now notes.now (meaning I.Key.Key.order (I.pairs index.now) (I.limit index.now))) (call.Commit transaction) result }
+        ensures does { DoesAround I.Key.Key.order (desk self.old versions.now notes.now (meaning I.Key.Key.order (I.pairs index.now) (I.limit index.now))) (desk self.new versions.now notes.now (meaning I.Key.Key.order (I.pairs index.now) (I.limit index.now))) (call.Commit transaction) result }
         ensures hints { Hinted self.new (hints_after self.old versions.now notes.now (call.Commit transaction)) }
     {
         commit(&mut self.store, versions, notes, index, transaction)
@@ -52,8 +52,8 @@ impl TableStore {
         index: &I,
         transaction: u64,
     ) -> Result<Answer<V>, Refusal>
-        ensures answers { AnswersAround I.Key.Key.order (around self.old.store versions.now notes.now (meaning I.Key.Key.order (pairs index.now) (limit index.now))) (around self.new.store versions.now notes.now (meaning I.Key.Key.order (pairs index.now) (limit index.now))) (call.Abort transaction) result }
-        ensures does { DoesAround I.Key.Key.order (desk self.old versions.now notes.now (meaning I.Key.Key.order (pairs index.now) (limit index.now))) (desk self.new versions.now notes.now (meaning I.Key.Key.order (pairs index.now) (limit index.now))) (call.Abort transaction) result }
+        ensures answers { AnswersAround I.Key.Key.order (around self.old.store versions.now notes.now (meaning I.Key.Key.order (I.pairs index.now) (I.limit index.now))) (around self.new.store versions.now notes.now (meaning I.Key.Key.order (I.pairs index.now) (I.limit index.now))) (call.Abort transaction) result }
+        ensures does { DoesAround I.Key.Key.order (desk self.old versions.now notes.now (meaning I.Key.Key.order (I.pairs index.now) (I.limit index.now))) (desk self.new versions.now notes.now (meaning I.Key.Key.order (I.pairs index.now) (I.limit index.now))) (call.Abort transaction) result }
         ensures hints { Hinted self.new (hints_after self.old versions.now notes.now (call.Abort transaction)) }
     {
         abort(&mut self.store, versions, notes, index, transaction)
@@ -67,8 +67,8 @@ impl TableStore {
         index: &I,
         transaction: u64,
     ) -> Result<Answer<V>, Refusal>
-        ensures answers { AnswersAround I.Key.Key.order (around self.old.store versions.old notes.old (meaning I.Key.Key.order (pairs index.now) (limit index.now))) (around self.new.store versions.new notes.new (meaning I.Key.Key.order (pairs index.now) (limit index.now))) (call.Finish transaction) result }
-        ensures does { DoesAround I.Key.Key.order (desk self.old versions.old notes.old (meaning I.Key.Key.order (pairs index.now) (limit index.now))) (desk self.new versions.new notes.new (meaning I.Key.Key.order (pairs index.now) (limit index.now))) (call.Finish transaction) result }
+        ensures answers { AnswersAround I.Key.Key.order (around self.old.store versions.old notes.old (meaning I.Key.Key.order (I.pairs index.now) (I.limit index.now))) (around self.new.store versions.new notes.new (meaning I.Key.Key.order (I.pairs index.now) (I.limit index.now))) (call.Finish transaction) result }
+        ensures does { DoesAround I.Key.Key.order (desk self.old versions.old notes.old (meaning I.Key.Key.order (I.pairs index.now) (I.limit index.now))) (desk self.new versions.new notes.new (meaning I.Key.Key.order (I.pairs index.now) (I.limit index.now))) (call.Finish transaction) result }
         ensures hints { Hinted self.new (hints_after self.old versions.old notes.old (call.Finish transaction)) }
     {
         finish(&mut self.store, versions, notes, index, transaction)
@@ -81,8 +81,8 @@ impl TableStore {
         notes: &[Entry<Note<I::Key>>],
         index: &mut I,
     ) -> Result<Answer<V>, Refusal>
-        ensures answers { AnswersAround I.Key.Key.order (around self.now.store versions.old notes.now (meaning I.Key.Key.order (pairs index.old) (limit index.old))) (around self.now.store versions.new notes.now (meaning I.Key.Key.order (pairs index.new) (limit index.new))) call.Sweep result }
-        ensures does { DoesAround I.Key.Key.order (desk self.now versions.old notes.now (meaning I.Key.Key.order (pairs index.old) (limit index.old))) (desk self.now versions.new notes.now (meaning I.Key.Key.order (pairs index.new) (limit index.new))) call.Sweep result }
+        ensures answers { AnswersAround I.Key.Key.order (around self.now.store versions.old notes.now (meaning I.Key.Key.order (I.pairs index.old) (I.limit index.old))) (around self.now.store versions.new notes.now (meaning I.Key.Key.order (I.pairs index.new) (I.limit index.new))) call.Sweep result }
+        ensures does { DoesAround I.Key.Key.order (desk self.now versions.old notes.now (meaning I.Key.Key.order (I.pairs index.old) (I.limit index.old))) (desk self.now versions.new notes.now (meaning I.Key.Key.order (I.pairs index.new) (I.limit index.new))) call.Sweep result }
     {
         sweep(&self.store, versions, notes, index)
     }

@@ -21,7 +21,7 @@ impl TableStore {
         transaction: u64,
         call: BookCall<I::Key, V>,
     ) -> Result<Answer<V>, Refusal>
-        ensures { performed I.Key.Key.order (desk self.old versions.old notes.old (meaning I.Key.Key.order (pairs index.old) (limit index.old)) rows.old) (Call.Book transaction call) ≡ (desk self.new versions.new notes.new (meaning I.Key.Key.order (pairs index.new) (limit index.new)) rows.new, result) }
+        ensures { performed I.Key.Key.order (desk self.old versions.old notes.old (meaning I.Key.Key.order (I.pairs index.old) (I.limit index.old)) rows.old) (Call.Book transaction call) ≡ (desk self.new versions.new notes.new (meaning I.Key.Key.order (I.pairs index.new) (I.limit index.new)) rows.new, result) }
     {
         match call {
             BookCall::Read(key) => self.read(versions, notes, index, transaction, key),
@@ -63,7 +63,7 @@ impl TableStore {
         rows: &mut [Row<I::Key, V>],
         call: Call<I::Key, V>,
     ) -> Result<Answer<V>, Refusal>
-        ensures { performed I.Key.Key.order (desk self.old versions.old notes.old (meaning I.Key.Key.order (pairs index.old) (limit index.old)) rows.old) call ≡ (desk self.new versions.new notes.new (meaning I.Key.Key.order (pairs index.new) (limit index.new)) rows.new, result) }
+        ensures { performed I.Key.Key.order (desk self.old versions.old notes.old (meaning I.Key.Key.order (I.pairs index.old) (I.limit index.old)) rows.old) call ≡ (desk self.new versions.new notes.new (meaning I.Key.Key.order (I.pairs index.new) (I.limit index.new)) rows.new, result) }
     {
         match call {
             Call::Open(stamp) => self.open(versions, notes, index, stamp),
@@ -88,10 +88,10 @@ impl TableStore {
         rows: &mut [Row<I::Key, V>],
         call: Call<I::Key, V>,
     ) -> Result<Answer<V>, Refusal>
-        ensures exact { performed I.Key.Key.order (desk self.old versions.old notes.old (meaning I.Key.Key.order (pairs index.old) (limit index.old)) rows.old) call ≡ (desk self.new versions.new notes.new (meaning I.Key.Key.order (pairs index.new) (limit index.new)) rows.new, result) }
-        ensures answers { Answers I.Key.Key.order (around self.old.store versions.old notes.old (meaning I.Key.Key.order (pairs index.old) (limit index.old)) rows.old) (around self.new.store versions.new notes.new (meaning I.Key.Key.order (pairs index.new) (limit index.new)) rows.new) call result }
-        ensures law { Goes_on I.Key.Key.order (around self.old.store versions.old notes.old (meaning I.Key.Key.order (pairs index.old) (limit index.old)) rows.old) (around self.new.store versions.new notes.new (meaning I.Key.Key.order (pairs index.new) (limit index.new)) rows.new) call result }
-        ensures opens { Begins I.Key.Key.order (around self.new.store versions.new notes.new (meaning I.Key.Key.order (pairs index.new) (limit index.new)) rows.new) call result }
+        ensures exact { performed I.Key.Key.order (desk self.old versions.old notes.old (meaning I.Key.Key.order (I.pairs index.old) (I.limit index.old)) rows.old) call ≡ (desk self.new versions.new notes.new (meaning I.Key.Key.order (I.pairs index.new) (I.limit index.new)) rows.new, result) }
+        ensures answers { Answers I.Key.Key.order (around self.old.store versions.old notes.old (meaning I.Key.Key.order (I.pairs index.old) (I.limit index.old)) rows.old) (around self.new.store versions.new notes.new (meaning I.Key.Key.order (I.pairs index.new) (I.limit index.new)) rows.new) call result }
+        ensures law { Goes_on I.Key.Key.order (around self.old.store versions.old notes.old (meaning I.Key.Key.order (I.pairs index.old) (I.limit index.old)) rows.old) (around self.new.store versions.new notes.new (meaning I.Key.Key.order (I.pairs index.new) (I.limit index.new)) rows.new) call result }
+        ensures opens { Begins I.Key.Key.order (around self.new.store versions.new notes.new (meaning I.Key.Key.order (I.pairs index.new) (I.limit index.new)) rows.new) call result }
     {
         self.carry_out(versions, notes, index, rows, call)
     }

@@ -23,8 +23,8 @@ impl TableStore {
         transaction: u64,
         key: I::Key,
     ) -> Result<Answer<V>, Refusal>
-        ensures answers { AnswersAround I.Key.Key.order (around self.old.store versions.now notes.old (meaning I.Key.Key.order (pairs index.now) (limit index.now))) (around self.new.store versions.now notes.new (meaning I.Key.Key.order (pairs index.now) (limit index.now))) (call.Book transaction (book.Read key)) result }
-        ensures does { DoesAround I.Key.Key.order (desk self.old versions.now notes.old (meaning I.Key.Key.order (pairs index.now) (limit index.now))) (desk self.new versions.now notes.new (meaning I.Key.Key.order (pairs index.now) (limit index.now))) (call.Book transaction (book.Read key)) result }
+        ensures answers { AnswersAround I.Key.Key.order (around self.old.store versions.now notes.old (meaning I.Key.Key.order (I.pairs index.now) (I.limit index.now))) (around self.new.store versions.now notes.new (meaning I.Key.Key.order (I.pairs index.now) (I.limit index.now))) (call.Book transaction (book.Read key)) result }
+        ensures does { DoesAround I.Key.Key.order (desk self.old versions.now notes.old (meaning I.Key.Key.order (I.pairs index.now) (I.limit index.now))) (desk self.new versions.now notes.new (meaning I.Key.Key.order (I.pairs index.now) (I.limit index.now))) (call.Book transaction (book.Read key)) result }
         ensures hints { Hinted self.new (hints_after self.old versions.now notes.old (call.Book transaction (book.Read key))) }
     {
         self.note_hint = self.note_place(notes, transaction);
@@ -50,8 +50,8 @@ impl TableStore {
         upper: I::Key,
         rows: &mut [Row<I::Key, V>],
     ) -> Result<Answer<V>, Refusal>
-        ensures answers { Answers I.Key.Key.order (around self.old.store versions.now notes.old (meaning I.Key.Key.order (pairs index.now) (limit index.now)) rows.old) (around self.new.store versions.now notes.new (meaning I.Key.Key.order (pairs index.now) (limit index.now)) rows.new) (call.Book transaction (book.Scan lower upper)) result }
-        ensures does { Does I.Key.Key.order (desk self.old versions.now notes.old (meaning I.Key.Key.order (pairs index.now) (limit index.now)) rows.old) (desk self.new versions.now notes.new (meaning I.Key.Key.order (pairs index.now) (limit index.now)) rows.new) (call.Book transaction (book.Scan lower upper)) result }
+        ensures answers { Answers I.Key.Key.order (around self.old.store versions.now notes.old (meaning I.Key.Key.order (I.pairs index.now) (I.limit index.now)) rows.old) (around self.new.store versions.now notes.new (meaning I.Key.Key.order (I.pairs index.now) (I.limit index.now)) rows.new) (call.Book transaction (book.Scan lower upper)) result }
+        ensures does { Does I.Key.Key.order (desk self.old versions.now notes.old (meaning I.Key.Key.order (I.pairs index.now) (I.limit index.now)) rows.old) (desk self.new versions.now notes.new (meaning I.Key.Key.order (I.pairs index.now) (I.limit index.now)) rows.new) (call.Book transaction (book.Scan lower upper)) result }
         ensures hints { Hinted self.new (hints_after self.old versions.now notes.old (call.Book transaction (book.Scan lower upper))) }
     {
         self.note_hint = self.note_place(notes, transaction);

@@ -21,8 +21,8 @@ impl TableStore {
         index: &mut I,
         stamp: u64,
     ) -> Result<Answer<V>, Refusal>
-        ensures answers { AnswersAround I.Key.Key.order (around self.old.store versions.old notes.old (meaning I.Key.Key.order (pairs index.old) (limit index.old))) (around self.new.store versions.new notes.new (meaning I.Key.Key.order (pairs index.new) (limit index.new))) (call.Open stamp) result }
-        ensures does { DoesAround I.Key.Key.order (desk self.old versions.old notes.old (meaning I.Key.Key.order (pairs index.old) (limit index.old))) (desk self.new versions.new notes.new (meaning I.Key.Key.order (pairs index.new) (limit index.new))) (call.Open stamp) result }
+        ensures answers { AnswersAround I.Key.Key.order (around self.old.store versions.old notes.old (meaning I.Key.Key.order (I.pairs index.old) (I.limit index.old))) (around self.new.store versions.new notes.new (meaning I.Key.Key.order (I.pairs index.new) (I.limit index.new))) (call.Open stamp) result }
+        ensures does { DoesAround I.Key.Key.order (desk self.old versions.old notes.old (meaning I.Key.Key.order (I.pairs index.old) (I.limit index.old))) (desk self.new versions.new notes.new (meaning I.Key.Key.order (I.pairs index.new) (I.limit index.new))) (call.Open stamp) result }
         ensures hints { Hinted self.new (hints_after self.old versions.old notes.old (call.Open stamp)) }
     {
         self.version_hint = 0;
@@ -38,8 +38,8 @@ impl TableStore {
         index: &I,
         level: Level,
     ) -> Result<Answer<V>, Refusal>
-        ensures answers { AnswersAround I.Key.Key.order (around self.old.store versions.now notes.now (meaning I.Key.Key.order (pairs index.now) (limit index.now))) (around self.new.store versions.now notes.now (meaning I.Key.Key.order (pairs index.now) (limit index.now))) (call.Begin level) result }
-        ensures does { DoesAround I.Key.Key.order (desk self.old versions.now notes.now (meaning I.Key.Key.order (pairs index.now) (limit index.now))) (desk self.new versions.now notes.now (meaning I.Key.Key.order (pairs index.now) (limit index.now))) (call.Begin level) result }
+        ensures answers { AnswersAround I.Key.Key.order (around self.old.store versions.now notes.now (meaning I.Key.Key.order (I.pairs index.now) (I.limit index.now))) (around self.new.store versions.now notes.now (meaning I.Key.Key.order (I.pairs index.now) (I.limit index.now))) (call.Begin level) result }
+        ensures does { DoesAround I.Key.Key.order (desk self.old versions.now notes.now (meaning I.Key.Key.order (I.pairs index.now) (I.limit index.now))) (desk self.new versions.now notes.now (meaning I.Key.Key.order (I.pairs index.now) (I.limit index.now))) (call.Begin level) result }
         ensures hints { Hinted self.new (hints_after self.old versions.now notes.now (call.Begin level)) }
     {
         begin(&mut self.store, versions, notes, index, level)
@@ -53,8 +53,8 @@ impl TableStore {
         index: &I,
         transaction: u64,
     ) -> Result<Answer<V>, Refusal>
-        ensures answers { AnswersAround I.Key.Key.order (around self.old.store versions.now notes.now (meaning I.Key.Key.order (pairs index.now) (limit index.now))) (around self.new.store versions.now notes.now (meaning I.Key.Key.order (pairs index.now) (limit index.now))) (call.Prepare transaction) result }
-        ensures does { DoesAround I.Key.Key.order (desk self.old versions.now notes.now (meaning I.Key.Key.order (pairs index.now) (limit index.now))) (desk self.new versions.now notes.now (meaning I.Key.Key.order (pairs index.now) (limit index.now))) (call.Prepare transaction) result }
+        ensures answers { AnswersAround I.Key.Key.order (around self.old.store versions.now notes.now (meaning I.Key.Key.order (I.pairs index.now) (I.limit index.now))) (around self.new.store versions.now notes.now (meaning I.Key.Key.order (I.pairs index.now) (I.limit index.now))) (call.Prepare transaction) result }
+        ensures does { DoesAround I.Key.Key.order (desk self.old versions.now notes.now (meaning I.Key.Key.order (I.pairs index.now) (I.limit index.now))) (desk self.new versions.now notes.now (meaning I.Key.Key.order (I.pairs index.now) (I.limit index.now))) (call.Prepare transaction) result }
         ensures hints { Hinted self.new (hints_after self.old versions.now notes.now (call.Prepare transaction)) }
     {
         prepare(&mut self.store, versions, notes, index, transaction)
@@ -67,8 +67,8 @@ impl TableStore {
         notes: &[Entry<Note<I::Key>>],
         index: &I,
     ) -> Result<Answer<V>, Refusal>
-        ensures answers { AnswersAround I.Key.Key.order (around self.now.store versions.now notes.now (meaning I.Key.Key.order (pairs index.now) (limit index.now))) (around self.now.store versions.now notes.now (meaning I.Key.Key.order (pairs index.now) (limit index.now))) call.Tally result }
-        ensures does { DoesAround I.Key.Key.order (desk self.now versions.now notes.now (meaning I.Key.Key.order (pairs index.now) (limit index.now))) (desk self.now versions.now notes.now (meaning I.Key.Key.order (pairs index.now) (limit index.now))) call.Tally result }
+        ensures answers { AnswersAround I.Key.Key.order (around self.now.store versions.now notes.now (meaning I.Key.Key.order (I.pairs index.now) (I.limit index.now))) (around self.now.store versions.now notes.now (meaning I.Key.Key.order (I.pairs index.now) (I.limit index.now))) call.Tally result }
+        ensures does { DoesAround I.Key.Key.order (desk self.now versions.now notes.now (meaning I.Key.Key.order (I.pairs index.now) (I.limit index.now))) (desk self.now versions.now notes.now (meaning I.Key.Key.order (I.pairs index.now) (I.limit index.now))) call.Tally result }
     {
         tally(&self.store, versions, notes, index)
     }

@@ -29,8 +29,8 @@ pub fn insert<I: Index, V: Copy>(
     key: I::Key,
     value: V,
 ) -> Result<Answer<V>, Refusal>
-    ensures answers { AnswersAround I.Key.Key.order (around store.old versions.old notes.old (meaning I.Key.Key.order (pairs index.old) (limit index.old))) (around store.new versions.new notes.new (meaning I.Key.Key.order (pairs index.new) (limit index.new))) transaction (book.Insert key value) result }
-    ensures picks { AnswersFromAround I.Key.Key.order version_hint note_hint (around store.old versions.old notes.old (meaning I.Key.Key.order (pairs index.old) (limit index.old))) (around store.new versions.new notes.new (meaning I.Key.Key.order (pairs index.new) (limit index.new))) transaction (book.Insert key value) result }
+    ensures answers { AnswersAround I.Key.Key.order (around store.old versions.old notes.old (meaning I.Key.Key.order (I.pairs index.old) (I.limit index.old))) (around store.new versions.new notes.new (meaning I.Key.Key.order (I.pairs index.new) (I.limit index.new))) transaction (book.Insert key value) result }
+    ensures picks { AnswersFromAround I.Key.Key.order version_hint note_hint (around store.old versions.old notes.old (meaning I.Key.Key.order (I.pairs index.old) (I.limit index.old))) (around store.new versions.new notes.new (meaning I.Key.Key.order (I.pairs index.new) (I.limit index.new))) transaction (book.Insert key value) result }
 {
     let (slot, t, found) = approach(store, versions, notes.len(), index, transaction, key, key)?;
     match insert_case(found) {
@@ -83,7 +83,7 @@ fn alter<I: Index, V: Copy>(
     key: I::Key,
     new: Option<V>,
 ) -> Result<Answer<V>, Refusal>
-    ensures { AnswersFromAround I.Key.Key.order version_hint note_hint (around store.old versions.old notes.old (meaning I.Key.Key.order (pairs index.old) (limit index.old))) (around store.new versions.new notes.new (meaning I.Key.Key.order (pairs index.new) (limit index.new))) transaction (call_of key new) result }
+    ensures { AnswersFromAround I.Key.Key.order version_hint note_hint (around store.old versions.old notes.old (meaning I.Key.Key.order (I.pairs index.old) (I.limit index.old))) (around store.new versions.new notes.new (meaning I.Key.Key.order (I.pairs index.new) (I.limit index.new))) transaction (call_of key new) result }
 {
     let (slot, t, found) = approach(store, versions, notes.len(), index, transaction, key, key)?;
     let waits = found.waits;
@@ -134,8 +134,8 @@ pub fn update<I: Index, V: Copy>(
     key: I::Key,
     value: V,
 ) -> Result<Answer<V>, Refusal>
-    ensures answers { AnswersAround I.Key.Key.order (around store.old versions.old notes.old (meaning I.Key.Key.order (pairs index.old) (limit index.old))) (around store.new versions.new notes.new (meaning I.Key.Key.order (pairs index.new) (limit index.new))) transaction (book.Update key value) result }
-    ensures picks { AnswersFromAround I.Key.Key.order version_hint note_hint (around store.old versions.old notes.old (meaning I.Key.Key.order (pairs index.old) (limit index.old))) (around store.new versions.new notes.new (meaning I.Key.Key.order (pairs index.new) (limit index.new))) transaction (book.Update key value) result }
+    ensures answers { AnswersAround I.Key.Key.order (around store.old versions.old notes.old (meaning I.Key.Key.order (I.pairs index.old) (I.limit index.old))) (around store.new versions.new notes.new (meaning I.Key.Key.order (I.pairs index.new) (I.limit index.new))) transaction (book.Update key value) result }
+    ensures picks { AnswersFromAround I.Key.Key.order version_hint note_hint (around store.old versions.old notes.old (meaning I.Key.Key.order (I.pairs index.old) (I.limit index.old))) (around store.new versions.new notes.new (meaning I.Key.Key.order (I.pairs index.new) (I.limit index.new))) transaction (book.Update key value) result }
 {
     alter(
         store,
@@ -161,8 +161,8 @@ pub fn delete<I: Index, V: Copy>(
     transaction: u64,
     key: I::Key,
 ) -> Result<Answer<V>, Refusal>
-    ensures answers { AnswersAround I.Key.Key.order (around store.old versions.old notes.old (meaning I.Key.Key.order (pairs index.old) (limit index.old))) (around store.new versions.new notes.new (meaning I.Key.Key.order (pairs index.new) (limit index.new))) transaction (book.Delete key) result }
-    ensures picks { AnswersFromAround I.Key.Key.order version_hint note_hint (around store.old versions.old notes.old (meaning I.Key.Key.order (pairs index.old) (limit index.old))) (around store.new versions.new notes.new (meaning I.Key.Key.order (pairs index.new) (limit index.new))) transaction (book.Delete key) result }
+    ensures answers { AnswersAround I.Key.Key.order (around store.old versions.old notes.old (meaning I.Key.Key.order (I.pairs index.old) (I.limit index.old))) (around store.new versions.new notes.new (meaning I.Key.Key.order (I.pairs index.new) (I.limit index.new))) transaction (book.Delete key) result }
+    ensures picks { AnswersFromAround I.Key.Key.order version_hint note_hint (around store.old versions.old notes.old (meaning I.Key.Key.order (I.pairs index.old) (I.limit index.old))) (around store.new versions.new notes.new (meaning I.Key.Key.order (I.pairs index.new) (I.limit index.new))) transaction (book.Delete key) result }
 {
     alter(
         store,

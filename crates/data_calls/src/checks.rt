@@ -42,7 +42,7 @@ pub fn approach<I: Index, V: Copy>(
     lower: I::Key,
     upper: I::Key,
 ) -> Result<(usize, Transaction, Survey<I::Key, V>), Refusal>
-    ensures says { result ≡ approached I.Key.Key.order store.now versions.now notes (pairs index.now) (limit index.now) name lower upper }
+    ensures says { result ≡ approached I.Key.Key.order store.now versions.now notes (I.pairs index.now) (I.limit index.now) name lower upper }
     ensures inside { IfOk result (λ x. x.0 < 64) }
 {
     let (slot, t) = locate(store, versions.len(), notes, index.capacity(), name)?;

@@ -20,8 +20,8 @@ pub fn read<I: Index, V: Copy>(
     transaction: u64,
     key: I::Key,
 ) -> Result<Answer<V>, Refusal>
-    ensures answers { AnswersAround I.Key.Key.order (around store.old versions.now notes.old (meaning I.Key.Key.order (pairs index.now) (limit index.now))) (around store.new versions.now notes.new (meaning I.Key.Key.order (pairs index.now) (limit index.now))) transaction (book.Read key) result }
-    ensures picks { AnswersFromAround I.Key.Key.order 0 note_hint (around store.old versions.now notes.old (meaning I.Key.Key.order (pairs index.now) (limit index.now))) (around store.new versions.now notes.new (meaning I.Key.Key.order (pairs index.now) (limit index.now))) transaction (book.Read key) result }
+    ensures answers { AnswersAround I.Key.Key.order (around store.old versions.now notes.old (meaning I.Key.Key.order (I.pairs index.now) (I.limit index.now))) (around store.new versions.now notes.new (meaning I.Key.Key.order (I.pairs index.now) (I.limit index.now))) transaction (book.Read key) result }
+    ensures picks { AnswersFromAround I.Key.Key.order 0 note_hint (around store.old versions.now notes.old (meaning I.Key.Key.order (I.pairs index.now) (I.limit index.now))) (around store.new versions.now notes.new (meaning I.Key.Key.order (I.pairs index.now) (I.limit index.now))) transaction (book.Read key) result }
 {
     let (slot, t, found) = approach(store, versions, notes.len(), index, transaction, key, key)?;
     let note = note_for(transaction, key, found.seen);

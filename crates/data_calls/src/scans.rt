@@ -32,8 +32,8 @@ pub fn scan<I: Index, V: Copy>(
     upper: I::Key,
     rows: &mut [Row<I::Key, V>],
 ) -> Result<Answer<V>, Refusal>
-    ensures answers { Answers I.Key.Key.order (world store.old versions.now notes.old rows.old (meaning I.Key.Key.order (pairs index.now) (limit index.now))) (world store.new versions.now notes.new rows.new (meaning I.Key.Key.order (pairs index.now) (limit index.now))) transaction (book.Scan lower upper) result }
-    ensures picks { AnswersFrom I.Key.Key.order 0 note_hint (world store.old versions.now notes.old rows.old (meaning I.Key.Key.order (pairs index.now) (limit index.now))) (world store.new versions.now notes.new rows.new (meaning I.Key.Key.order (pairs index.now) (limit index.now))) transaction (book.Scan lower upper) result }
+    ensures answers { Answers I.Key.Key.order (world store.old versions.now notes.old rows.old (meaning I.Key.Key.order (I.pairs index.now) (I.limit index.now))) (world store.new versions.now notes.new rows.new (meaning I.Key.Key.order (I.pairs index.now) (I.limit index.now))) transaction (book.Scan lower upper) result }
+    ensures picks { AnswersFrom I.Key.Key.order 0 note_hint (world store.old versions.now notes.old rows.old (meaning I.Key.Key.order (I.pairs index.now) (I.limit index.now))) (world store.new versions.now notes.new rows.new (meaning I.Key.Key.order (I.pairs index.now) (I.limit index.now))) transaction (book.Scan lower upper) result }
 {
     let (slot, t) = locate(
         store,

@@ -79,7 +79,7 @@ module _ {K : Type 0} (o : K → K → Ordering) (laws : TotalOrder o) where
       (λ e. absurd (true≢false (sym (holds_first x xs) ∙ h x ∙ below_all x (y ∷ ys) (below_more x y ys e t.0))))
       (⊎_elim
       (λ e. let p = same_pair o laws x y e in let q = sorted_one xs ys s.1 t.1 (λ z. tails z (tie o z x) refl p) in λ i. p i ∷ q i)
-      (λ e. absurd (true≢false (sym (holds_first y ys) ∙ sym (h y) ∙ below_all y (x ∷ xs) (below_more y x xs ((pair_total o laws).flip y x ∙ ap ordering_reverse e) s.0)))))
+      (λ e. absurd (true≢false (sym (holds_first y ys) ∙ sym (h y) ∙ below_all y (x ∷ xs) (below_more y x xs ((pair_total o laws).antisymm y x ∙ ap ordering_reverse e) s.0)))))
       (three (pair_order o x y))
     where
       tails : (z : K × ℕ) (b : Bool) → tie o z x ≡ b → x ≡ y → holds o xs z ≡ holds o ys z
@@ -124,7 +124,7 @@ module _ {K : Type 0} (o : K → K → Ordering) (laws : TotalOrder o) where
       after e =
           ⊎_elim
           (λ f. absurd (true≢false (sym (ap is_eq f) ∙ left (tie o q y) (holds o ys q) h)))
-          (λ f. (pair_total o laws).flip y q ∙ ap ordering_reverse f)
+          (λ f. (pair_total o laws).antisymm y q ∙ ap ordering_reverse f)
           (not_less (pair_order o q y) e)
 
       go : (b : Bool) → is_lt (pair_order o q y) ≡ b → (holds o ys q ≡ false → IsStrictlySortedBy (pair_order o) (with_pair o q ys)) → IsStrictlySortedBy (pair_order o) (cond b (q ∷ y ∷ ys) (y ∷ with_pair o q ys))
@@ -223,7 +223,7 @@ module _ {K : Type 0} (o : K → K → Ordering) (laws : TotalOrder o) where
       same_held q Less false e g = and_right (from_on o k p upper q) false refl ∙ sym (and_right (from_on o x.0 (x.1 + 1) upper q) false refl)
       same_held q Equal true e g = ap (λ t. from_on o k p upper t && true) (same_pair o laws q x e) ∙ ap (λ t. t && true) here
       same_held q Equal false e g = absurd (true≢false (sym in-set ∙ ap (holds o xs) (sym (same_pair o laws q x e)) ∙ g))
-      same_held q Greater true e g = ap (λ t. t && true) (other q g (inr ((pair_total o laws).flip x q ∙ ap ordering_reverse e)))
+      same_held q Greater true e g = ap (λ t. t && true) (other q g (inr ((pair_total o laws).antisymm x q ∙ ap ordering_reverse e)))
       same_held q Greater false e g = and_right (from_on o k p upper q) false refl ∙ sym (and_right (from_on o x.0 (x.1 + 1) upper q) false refl)
 
       pub some_from : Next o k p upper xs (Some x)

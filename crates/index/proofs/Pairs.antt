@@ -1,8 +1,7 @@
 -- The order of pairs. Assumes nothing.
 use Rattle.std.proofs.Common.{◌≡◌, ℕ, ◌+◌, ◌<◌, ◌≤◌, Bool, true, false, not, ◌&&◌, ◌||◌, ◌⊎◌, List, [], ◌∷◌, Ordering, Less, Equal, Greater, sym, refl, ap, ◌∙◌, subst, inl, inr, ⊎_elim, true≢false, arith}
 use Rattle.std.specs.Ordering.{is_eq, is_lt, is_le, is_gt, ordering_reverse, ordering_then, MatchOrdering, nat_cmp}
-use Rattle.std.specs.Cmp.{IsTotalOrder, nat_cmp_total, ranks, means, below_irrefl, below_chain, pairs}
-use Rattle.std.proofs.SortedKeys.{level}
+use Rattle.std.specs.Cmp.{IsTotalOrder, nat_cmp_total, nat_cmp_is, ranks, means, below_irrefl, below_chain, tied_itself, on_total, then_total}
 use Rattle.keys.specs.Laws.{TotalOrder}
 use Rattle.index.specs.Sets.{pair_order, tie, answers}
 
@@ -13,7 +12,7 @@ rank_less : (m n : ℕ) → nat_cmp m n ≡ Less → m < n
 rank_less m n e = means (λ (x y : ℕ). x < y) below_irrefl below_chain nat_cmp ranks m n Less e
 
 less_rank : (m n : ℕ) → m < n → nat_cmp m n ≡ Less
-less_rank m n h = sym (nat_cmp_total.says m n Less h)
+less_rank m n h = sym (nat_cmp_is m n Less h)
 
 then_equal : (a b : Ordering) → ordering_then a b ≡ Equal → (a ≡ Equal) × (b ≡ Equal)
 then_equal Less b e = absurd (true≢false (ap is_lt e))
@@ -40,24 +39,16 @@ false_unless true h = absurd (h refl)
 false_unless false h = refl
 
 module _ {K : Type 0} (o : K → K → Ordering) (laws : TotalOrder o) where
-  abbrev key_total : IsTotalOrder (answers o)
+  key_total : IsTotalOrder o
   key_total = record {
-    cmp = o;
-    says = λ x y r h. h;
-    flip = laws.flip;
+    antisymm = laws.flip;
     trans = laws.trans;
-    alike = λ x y z e. ap (λ w. o w z) (laws.same x y e);
+    congr = λ x y z e. ap (λ w. o w z) (laws.same x y e);
   }
 
   -- the order of pairs is total
-  abbrev pub pair_total : IsTotalOrder (answers (pair_order o))
-  pair_total = record {
-    cmp = pair_order o;
-    says = λ x y r h. h;
-    flip = (pairs key_total nat_cmp_total).flip;
-    trans = (pairs key_total nat_cmp_total).trans;
-    alike = (pairs key_total nat_cmp_total).congr;
-  }
+  pub pair_total : IsTotalOrder (pair_order o)
+  pair_total = then_total (on_total (λ (x : K × ℕ). x.0) key_total) (on_total (λ (x : K × ℕ). x.1) nat_cmp_total)
 
   -- pairs that tie are one
   pub same_pair : (x y : K × ℕ) → pair_order o x y ≡ Equal → x ≡ y
@@ -71,7 +62,7 @@ module _ {K : Type 0} (o : K → K → Ordering) (laws : TotalOrder o) where
   same_tie x y t = same_pair x y (is_equal (pair_order o x y) t)
 
   pub tie_itself : (q : K × ℕ) → tie o q q ≡ true
-  tie_itself q = ap is_eq (level pair_total q)
+  tie_itself q = ap is_eq (tied_itself pair_total q)
 
   abbrev pub Lt : K × ℕ → K × ℕ → Type 0
   Lt x y = pair_order o x y ≡ Less

@@ -84,7 +84,7 @@ pub fn next_pair<I: Index>(
     from: usize,
     upper: I::Key,
 ) -> Option<(I::Key, usize)>
-    ensures { Next I.Key.Key.order key from upper (pairs index.now) result }
+    ensures { Next I.Key.Key.order key from upper (I.pairs index.now) result }
 {
     if is_beyond(&key, &upper) {
         return None;

@@ -4,7 +4,7 @@ use Rattle.std.specs.declared.cmp.Ordering.TheVariants.{Less, Equal, Greater}
 use Rattle.std.specs.declared.cmp.Ordering.{Ordering}
 use Rattle.std.proofs.Common.{sym, ap, ◌∙◌, true≢false}
 use Rattle.std.specs.Ordering.{ordering_then, is_lt, is_gt, is_eq, nat_cmp}
-use Rattle.std.specs.Cmp.{nat_cmp_total, ranks, means, one_rank, below_irrefl, below_chain, pairs}
+use Rattle.std.specs.Cmp.{IsTotalOrder, nat_cmp_total, ranks, means, one_rank, below_irrefl, below_chain, on_total, then_total}
 use Rattle.keys.specs.Laws.{TotalOrder, KeyLaws, equal_by}
 use Rattle.keys.specs.declared.BoardPlace.{BoardPlace}
 use Rattle.keys.specs.declared.CardNumber.{CardNumber}
@@ -54,9 +54,6 @@ card_laws = record {
 
 -- ---- a place by its seat, its zone and its slot
 
-abbrev place_parts : BoardPlace → ℕ × (ℕ × ℕ)
-place_parts x = (x.seat, (x.zone, x.slot))
-
 abbrev pub place_order : BoardPlace → BoardPlace → Ordering
 place_order x y = ordering_then (nat_cmp x.seat y.seat) (ordering_then (nat_cmp x.zone y.zone) (nat_cmp x.slot y.slot))
 
@@ -81,12 +78,17 @@ place_same x y e =
     let t = rank_same x.slot y.slot q.1 in
     λ i. record { seat = s i; zone = z i; slot = t i }
 
+in_turn : IsTotalOrder place_order
+in_turn =
+    then_total (on_total (λ (x : BoardPlace). x.seat) nat_cmp_total)
+    (then_total (on_total (λ (x : BoardPlace). x.zone) nat_cmp_total) (on_total (λ (x : BoardPlace). x.slot) nat_cmp_total))
+
 pub place_total : TotalOrder place_order
 place_total = record {
   itself = place_itself;
   same = place_same;
-  flip = λ x y. (pairs nat_cmp_total (pairs nat_cmp_total nat_cmp_total)).flip (place_parts x) (place_parts y);
-  trans = λ x y z. (pairs nat_cmp_total (pairs nat_cmp_total nat_cmp_total)).trans (place_parts x) (place_parts y) (place_parts z);
+  flip = in_turn.antisymm;
+  trans = in_turn.trans;
 }
 
 pub place_laws : KeyLaws place_order (equal_by place_order) place_hash

@@ -30,8 +30,8 @@ fn play_one<I: Index, V: Copy>(
     place: usize,
 ) -> Result<Answer<V>, Refusal>
     ensures writes { answers.new ≡ slice_set answers.old place (Some result) }
-    ensures answers { Answers I.Key.Key.order (around store.old.store versions.old notes.old (meaning I.Key.Key.order (pairs index.old) (limit index.old)) rows.old) (around store.new.store versions.new notes.new (meaning I.Key.Key.order (pairs index.new) (limit index.new)) rows.new) call result }
-    ensures law { Goes_on I.Key.Key.order (around store.old.store versions.old notes.old (meaning I.Key.Key.order (pairs index.old) (limit index.old)) rows.old) (around store.new.store versions.new notes.new (meaning I.Key.Key.order (pairs index.new) (limit index.new)) rows.new) call result }
+    ensures answers { Answers I.Key.Key.order (around store.old.store versions.old notes.old (meaning I.Key.Key.order (I.pairs index.old) (I.limit index.old)) rows.old) (around store.new.store versions.new notes.new (meaning I.Key.Key.order (I.pairs index.new) (I.limit index.new)) rows.new) call result }
+    ensures law { Goes_on I.Key.Key.order (around store.old.store versions.old notes.old (meaning I.Key.Key.order (I.pairs index.old) (I.limit index.old)) rows.old) (around store.new.store versions.new notes.new (meaning I.Key.Key.order (I.pairs index.new) (I.limit index.new)) rows.new) call result }
 {
     let answer = store.perform(versions, notes, index, rows, call);
     set_at(answers, place, Some(answer));
@@ -49,7 +49,7 @@ fn play_on<I: Index, V: Copy>(
     answers: &mut [Option<Result<Answer<V>, Refusal>>],
 ) -> usize
     ensures counts { result ≡ min (length calls.now) (length answers.old) }
-    ensures plays { PlaysOn I.Key.Key.order (around store.old.store versions.old notes.old (meaning I.Key.Key.order (pairs index.old) (limit index.old)) rows.old) (around store.new.store versions.new notes.new (meaning I.Key.Key.order (pairs index.new) (limit index.new)) rows.new) calls.now answers.old answers.new result }
+    ensures plays { PlaysOn I.Key.Key.order (around store.old.store versions.old notes.old (meaning I.Key.Key.order (I.pairs index.old) (I.limit index.old)) rows.old) (around store.new.store versions.new notes.new (meaning I.Key.Key.order (I.pairs index.new) (I.limit index.new)) rows.new) calls.now answers.old answers.new result }
 {
     let count = room(calls.len(), answers.len());
     for place in 0..count {
@@ -79,7 +79,7 @@ pub fn play<I: Index, V: Copy>(
     calls: &[Call<I::Key, V>],
     answers: &mut [Option<Result<Answer<V>, Refusal>>],
 ) -> Result<usize, Refusal>
-    ensures { Plays I.Key.Key.order stamp (around store.old.store versions.old notes.old (meaning I.Key.Key.order (pairs index.old) (limit index.old)) rows.old) (around store.new.store versions.new notes.new (meaning I.Key.Key.order (pairs index.new) (limit index.new)) rows.new) calls.now answers.old answers.new result }
+    ensures { Plays I.Key.Key.order stamp (around store.old.store versions.old notes.old (meaning I.Key.Key.order (I.pairs index.old) (I.limit index.old)) rows.old) (around store.new.store versions.new notes.new (meaning I.Key.Key.order (I.pairs index.new) (I.limit index.new)) rows.new) calls.now answers.old answers.new result }
 {
     store.perform(versions, notes, index, rows, Call::Open(stamp))?;
     Ok(play_on(store, versions, notes, index, rows, calls, answers))

@@ -37,7 +37,7 @@ module _ {K : Type 0} (order : K → K → Ordering) (total : TotalOrder order) 
       go : (o : Ordering) → pair_order order a b ≡ o → pair_order order b a ≡ Less
       go Less z = absurd (true≢false (sym (ap is_lt z) ∙ e))
       go Equal z = absurd (d (same_pair order total a b z))
-      go Greater z = (pair_total order total).flip b a ∙ ap ordering_reverse z
+      go Greater z = (pair_total order total).antisymm b a ∙ ap ordering_reverse z
 
   module _ (k : K) (p : ℕ) where
     pub in_with : (x : K × ℕ) (xs : List (K × ℕ)) → In x (with_pair order (k, p) xs) → ((k, p) ≡ x) ⊎ In x xs

@@ -24,7 +24,7 @@ fn run_with<I: Index<Key = CardNumber> + Drop>(
     text: &[u8],
     out: &mut String,
 ) -> Result<(), AllocError>
-    requires { (pairs index ≡ []) × (limit index ≡ 256) × (length text.now ≤ 65536) }
+    requires { (I.pairs index ≡ []) × (I.limit index ≡ 256) × (length text.now ≤ 65536) }
     ensures { OnOk result (string_bytes out.new ≡ string_bytes out.old ++ told 2 opened (lines text.now)) }
 {
     let mut tables = Tables::new(index);

@@ -40,7 +40,7 @@ fn read_call(line: usize, bytes: &[u8]) -> Result<Call<CardNumber, Score>, Scrip
 impl<I: Index<Key = CardNumber>> Tables<I> {
     /// Before the opening.
     pub(crate) fn new(index: I) -> Tables<I>
-        ensures { desk_of pairs limit result ≡ fresh_with (meaning card_order (pairs index) (limit index)) }
+        ensures { desk_of I.pairs I.limit result ≡ fresh_with (meaning card_order (I.pairs index) (I.limit index)) }
     {
         let no_version: Entry<Version<CardNumber, Score>> = Entry::free();
         let no_note: Entry<Note<CardNumber>> = Entry::free();
@@ -59,7 +59,7 @@ impl<I: Index<Key = CardNumber>> Tables<I> {
 
     // Carries out the call.
     fn ask(&mut self, call: Call<CardNumber, Score>) -> Result<Answer<Score>, Refusal>
-        ensures { carried (desk_of pairs limit self.old) call ≡ (desk_of pairs limit self.new, result) }
+        ensures { carried (desk_of I.pairs I.limit self.old) call ≡ (desk_of I.pairs I.limit self.new, result) }
     {
         self.store.perform(
             &mut self.versions,
@@ -72,7 +72,7 @@ impl<I: Index<Key = CardNumber>> Tables<I> {
 
     /// Opens the store at stamp 0.
     pub(crate) fn open(&mut self)
-        ensures { desk_of pairs limit self.new ≡ (carried (desk_of pairs limit self.old) (call.Open 0)).0 }
+        ensures { desk_of I.pairs I.limit self.new ≡ (carried (desk_of I.pairs I.limit self.old) (call.Open 0)).0 }
     {
         let _ = self.ask(Call::Open(0));
     }
@@ -83,8 +83,8 @@ impl<I: Index<Key = CardNumber>> Tables<I> {
         line: usize,
         bytes: &[u8],
     ) -> Result<(Call<CardNumber, Score>, Answer<Score>), ScriptFault>
-        ensures answers { result ≡ result_of line (desk_of pairs limit self.old) (asked bytes.now) }
-        ensures leaves { desk_of pairs limit self.new ≡ desk_after (desk_of pairs limit self.old) (asked bytes.now) }
+        ensures answers { result ≡ result_of line (desk_of I.pairs I.limit self.old) (asked bytes.now) }
+        ensures leaves { desk_of I.pairs I.limit self.new ≡ desk_after (desk_of I.pairs I.limit self.old) (asked bytes.now) }
     {
         let call = read_call(line, bytes)?;
         let answer = at_call(line, call, self.ask(call))?;
@@ -93,7 +93,7 @@ impl<I: Index<Key = CardNumber>> Tables<I> {
 
     // Carries out a line and writes what comes of it; whether the script goes on.
     fn tell_line(&mut self, line: usize, bytes: &[u8], out: &mut String) -> Result<bool, AllocError>
-        ensures { IfOk result (λ goes. Line-told line (desk_of pairs limit self.old) (asked bytes.now) (desk_of pairs limit self.new) (string_bytes out.old) (string_bytes out.new) goes) }
+        ensures { IfOk result (λ goes. Line-told line (desk_of I.pairs I.limit self.old) (asked bytes.now) (desk_of I.pairs I.limit self.new) (string_bytes out.old) (string_bytes out.new) goes) }
     {
         match self.carry_out(line, bytes) {
             Ok((call, answer)) => {
@@ -112,7 +112,7 @@ impl<I: Index<Key = CardNumber>> Tables<I> {
         out: &mut String,
     ) -> Result<(), AllocError>
         requires { first + length text.now < 2 ^ 64 }
-        ensures { OnOk result (string_bytes out.new ≡ string_bytes out.old ++ told first (desk_of pairs limit self.old) (lines text.now)) }
+        ensures { OnOk result (string_bytes out.new ≡ string_bytes out.old ++ told first (desk_of I.pairs I.limit self.old) (lines text.now)) }
     {
         let mut line = first;
         let mut rest = text;

@@ -54,7 +54,7 @@ pub fn commit<I: Index, V: Copy>(
     index: &I,
     transaction: u64,
 ) -> Result<Answer<V>, Refusal>
-    ensures { Comes (λ w. commit_rule w transaction) (around store.old versions.now notes.now (meaning I.Key.Key.order (pairs index.now) (limit index.now))) (around store.new versions.now notes.now (meaning I.Key.Key.order (pairs index.now) (limit index.now))) result }
+    ensures { Comes (λ w. commit_rule w transaction) (around store.old versions.now notes.now (meaning I.Key.Key.order (I.pairs index.now) (I.limit index.now))) (around store.new versions.now notes.now (meaning I.Key.Key.order (I.pairs index.now) (I.limit index.now))) result }
 {
     let (slot, t) = sound(
         store,
@@ -83,7 +83,7 @@ pub fn abort<I: Index, V: Copy>(
     index: &I,
     transaction: u64,
 ) -> Result<Answer<V>, Refusal>
-    ensures { Comes (λ w. abort_rule w transaction) (around store.old versions.now notes.now (meaning I.Key.Key.order (pairs index.now) (limit index.now))) (around store.new versions.now notes.now (meaning I.Key.Key.order (pairs index.now) (limit index.now))) result }
+    ensures { Comes (λ w. abort_rule w transaction) (around store.old versions.now notes.now (meaning I.Key.Key.order (I.pairs index.now) (I.limit index.now))) (around store.new versions.now notes.now (meaning I.Key.Key.order (I.pairs index.now) (I.limit index.now))) result }
 {
     let (_slot, _t) = named(
         store,
@@ -113,7 +113,7 @@ pub fn finish<I: Index, V: Copy>(
     index: &I,
     transaction: u64,
 ) -> Result<Answer<V>, Refusal>
-    ensures { Comes (λ w. finish_rule w transaction) (around store.old versions.old notes.old (meaning I.Key.Key.order (pairs index.now) (limit index.now))) (around store.new versions.new notes.new (meaning I.Key.Key.order (pairs index.now) (limit index.now))) result }
+    ensures { Comes (λ w. finish_rule w transaction) (around store.old versions.old notes.old (meaning I.Key.Key.order (I.pairs index.now) (I.limit index.now))) (around store.new versions.new notes.new (meaning I.Key.Key.order (I.pairs index.now) (I.limit index.now))) result }
 {
     let (slot, t) = named(
         store,

@@ -40,7 +40,7 @@ pub fn open<I: Index, V: Copy>(
     index: &mut I,
     stamp: u64,
 ) -> Result<Answer<V>, Refusal>
-    ensures { Comes (λ w. open_rule I.Key.Key.order w stamp) (around store.old versions.old notes.old (meaning I.Key.Key.order (pairs index.old) (limit index.old))) (around store.new versions.new notes.new (meaning I.Key.Key.order (pairs index.new) (limit index.new))) result }
+    ensures { Comes (λ w. open_rule I.Key.Key.order w stamp) (around store.old versions.old notes.old (meaning I.Key.Key.order (I.pairs index.old) (I.limit index.old))) (around store.new versions.new notes.new (meaning I.Key.Key.order (I.pairs index.new) (I.limit index.new))) result }
 {
     if !is_allowed(versions.len(), notes.len(), index.capacity()) {
         return Err(Refusal::Lengths);
@@ -68,7 +68,7 @@ pub fn tally<I: Index, V: Copy>(
     notes: &[Entry<Note<I::Key>>],
     index: &I,
 ) -> Result<Answer<V>, Refusal>
-    ensures { Comes tally_rule (around store.now versions.now notes.now (meaning I.Key.Key.order (pairs index.now) (limit index.now))) (around store.now versions.now notes.now (meaning I.Key.Key.order (pairs index.now) (limit index.now))) result }
+    ensures { Comes tally_rule (around store.now versions.now notes.now (meaning I.Key.Key.order (I.pairs index.now) (I.limit index.now))) (around store.now versions.now notes.now (meaning I.Key.Key.order (I.pairs index.now) (I.limit index.now))) result }
 {
     if !in_order(store.opened, versions.len(), notes.len(), index.capacity()) {
         return Err(Refusal::Lengths);

@@ -49,7 +49,7 @@ pub fn begin<I: Index, V: Copy>(
     index: &I,
     level: Level,
 ) -> Result<Answer<V>, Refusal>
-    ensures { Comes (λ w. begin_rule w level) (around store.old versions.now notes.now (meaning I.Key.Key.order (pairs index.now) (limit index.now))) (around store.new versions.now notes.now (meaning I.Key.Key.order (pairs index.now) (limit index.now))) result }
+    ensures { Comes (λ w. begin_rule w level) (around store.old versions.now notes.now (meaning I.Key.Key.order (I.pairs index.now) (I.limit index.now))) (around store.new versions.now notes.now (meaning I.Key.Key.order (I.pairs index.now) (I.limit index.now))) result }
 {
     if !in_order(store.opened, versions.len(), notes.len(), index.capacity()) {
         return Err(Refusal::Lengths);
@@ -86,7 +86,7 @@ pub fn prepare<I: Index, V: Copy>(
     index: &I,
     transaction: u64,
 ) -> Result<Answer<V>, Refusal>
-    ensures { Comes (λ w. prepare_rule w transaction) (around store.old versions.now notes.now (meaning I.Key.Key.order (pairs index.now) (limit index.now))) (around store.new versions.now notes.now (meaning I.Key.Key.order (pairs index.now) (limit index.now))) result }
+    ensures { Comes (λ w. prepare_rule w transaction) (around store.old versions.now notes.now (meaning I.Key.Key.order (I.pairs index.now) (I.limit index.now))) (around store.new versions.now notes.now (meaning I.Key.Key.order (I.pairs index.now) (I.limit index.now))) result }
 {
     let (slot, t) = sound(
         store,

@@ -39,7 +39,7 @@ fn sweep_at<I: Index, V: Copy>(
 ) -> bool
     ensures tells { result ≡ is_some (key_to_sweep slots.now (entry versions.old place)) }
     ensures frees { versions.new ≡ freed_at place (key_to_sweep slots.now (entry versions.old place)) versions.old }
-    ensures takes { listed I.Key.Key.order (pairs index.new) ≡ taken_out I.Key.Key.order place (key_to_sweep slots.now (entry versions.old place)) (listed I.Key.Key.order (pairs index.old)) }
+    ensures takes { listed I.Key.Key.order (I.pairs index.new) ≡ taken_out I.Key.Key.order place (key_to_sweep slots.now (entry versions.old place)) (listed I.Key.Key.order (I.pairs index.old)) }
     ensures limit { limit index.new ≡ limit index.old }
 {
     let Some(key) = key_to_sweep(slots, held_at(versions, place)) else {
@@ -65,7 +65,7 @@ fn sweep_all<I: Index, V: Copy>(
 ) -> usize
     ensures counts { result ≡ count (λ x. to_sweep slots.now x.held) versions.old }
     ensures frees { versions.new ≡ map (swept_entry slots.now) versions.old }
-    ensures takes { listed I.Key.Key.order (pairs index.new) ≡ keep (λ x. not (sweeps_pair I.Key.Key.order slots.now versions.old x)) (listed I.Key.Key.order (pairs index.old)) }
+    ensures takes { listed I.Key.Key.order (I.pairs index.new) ≡ keep (λ x. not (sweeps_pair I.Key.Key.order slots.now versions.old x)) (listed I.Key.Key.order (I.pairs index.old)) }
     ensures limit { limit index.new ≡ limit index.old }
 {
     let mut count = 0;
@@ -83,7 +83,7 @@ pub fn sweep<I: Index, V: Copy>(
     notes: &[Entry<Note<I::Key>>],
     index: &mut I,
 ) -> Result<Answer<V>, Refusal>
-    ensures { Comes (sweep_rule I.Key.Key.order) (around store.now versions.old notes.now (meaning I.Key.Key.order (pairs index.old) (limit index.old))) (around store.now versions.new notes.now (meaning I.Key.Key.order (pairs index.new) (limit index.new))) result }
+    ensures { Comes (sweep_rule I.Key.Key.order) (around store.now versions.old notes.now (meaning I.Key.Key.order (I.pairs index.old) (I.limit index.old))) (around store.now versions.new notes.now (meaning I.Key.Key.order (I.pairs index.new) (I.limit index.new))) result }
 {
     if !in_order(store.opened, versions.len(), notes.len(), index.capacity()) {
         return Err(Refusal::Lengths);

@@ -34,7 +34,7 @@ fn verdict_on<I: Index, V: Copy>(
     name: u64,
     one: Preparing,
 ) -> Result<Verdict, Refusal>
-    ensures { Judges (if is_serializable one.transaction.level then test_all I.Key.Key.order slots.now versions.now name one.end (tests_for I.Key.Key.order (meaning I.Key.Key.order (pairs index.now) (limit index.now)) name notes.now) one.transaction.waits else Ok (Some one.transaction.waits)) result }
+    ensures { Judges (if is_serializable one.transaction.level then test_all I.Key.Key.order slots.now versions.now name one.end (tests_for I.Key.Key.order (meaning I.Key.Key.order (I.pairs index.now) (I.limit index.now)) name notes.now) one.transaction.waits else Ok (Some one.transaction.waits)) result }
 {
     let waits = one.transaction.waits;
     if !is_serializable(one.transaction.level) {
@@ -84,7 +84,7 @@ pub fn validate<I: Index, V: Copy>(
     index: &I,
     transaction: u64,
 ) -> Result<Answer<V>, Refusal>
-    ensures { Comes (λ w. validate_rule I.Key.Key.order w transaction) (around store.old versions.now notes.now (meaning I.Key.Key.order (pairs index.now) (limit index.now))) (around store.new versions.now notes.now (meaning I.Key.Key.order (pairs index.now) (limit index.now))) result }
+    ensures { Comes (λ w. validate_rule I.Key.Key.order w transaction) (around store.old versions.now notes.now (meaning I.Key.Key.order (I.pairs index.now) (I.limit index.now))) (around store.new versions.now notes.now (meaning I.Key.Key.order (I.pairs index.now) (I.limit index.now))) result }
 {
     let one = find_preparing(
         store,

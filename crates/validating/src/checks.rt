@@ -84,7 +84,7 @@ pub fn test_notes<I: Index, V: Copy>(
     end: u64,
     waits: [bool; 64],
 ) -> Result<Verdict, Refusal>
-    ensures { Judges (test_all I.Key.Key.order slots.now versions.now name end (tests_for I.Key.Key.order (meaning I.Key.Key.order (pairs index.now) (limit index.now)) name notes.now) waits) result }
+    ensures { Judges (test_all I.Key.Key.order slots.now versions.now name end (tests_for I.Key.Key.order (meaning I.Key.Key.order (I.pairs index.now) (I.limit index.now)) name notes.now) waits) result }
 {
     let mut marks = waits;
     let mut last = None;

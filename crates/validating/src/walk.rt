@@ -39,7 +39,7 @@ pub fn past<K: Copy>(ahead: Ahead<K>, key: K, from: usize) -> Ahead<K>
 
 /// The first of the pairs ahead.
 pub fn next_ahead<I: Index>(index: &I, ahead: Ahead<I::Key>) -> Option<(I::Key, usize)>
-    ensures { NextAhead I.Key.Key.order (pairs index.now) ahead result }
+    ensures { NextAhead I.Key.Key.order (I.pairs index.now) ahead result }
 {
     match ahead {
         Ahead::Nothing => None,

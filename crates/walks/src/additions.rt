@@ -52,7 +52,7 @@ pub fn add<I: Index, V: Copy>(
     key: I::Key,
     value: V,
 ) -> Result<usize, Refusal>
-    ensures { Leaves (adding I.Key.Key.order (pick hint versions.old) name key value (versions.old, meaning I.Key.Key.order (pairs index.old) (limit index.old))) (versions.old, meaning I.Key.Key.order (pairs index.old) (limit index.old)) (versions.new, meaning I.Key.Key.order (pairs index.new) (limit index.new)) result }
+    ensures { Leaves (adding I.Key.Key.order (pick hint versions.old) name key value (versions.old, meaning I.Key.Key.order (I.pairs index.old) (I.limit index.old))) (versions.old, meaning I.Key.Key.order (I.pairs index.old) (I.limit index.old)) (versions.new, meaning I.Key.Key.order (I.pairs index.new) (I.limit index.new)) result }
 {
     let Some(place) = free_place(versions, hint) else {
         return Err(Refusal::Versions);
@@ -71,7 +71,7 @@ pub fn add_if<I: Index, V: Copy>(
     key: I::Key,
     new: Option<V>,
 ) -> Result<usize, Refusal>
-    ensures { Leaves (adding_if I.Key.Key.order (pick hint versions.old) name key new (versions.old, meaning I.Key.Key.order (pairs index.old) (limit index.old))) (versions.old, meaning I.Key.Key.order (pairs index.old) (limit index.old)) (versions.new, meaning I.Key.Key.order (pairs index.new) (limit index.new)) result }
+    ensures { Leaves (adding_if I.Key.Key.order (pick hint versions.old) name key new (versions.old, meaning I.Key.Key.order (I.pairs index.old) (I.limit index.old))) (versions.old, meaning I.Key.Key.order (I.pairs index.old) (I.limit index.old)) (versions.new, meaning I.Key.Key.order (I.pairs index.new) (I.limit index.new)) result }
 {
     let Some(value) = new else {
         return Ok(hint);

@@ -53,7 +53,7 @@ pub fn list_rows<I: Index, V: Copy>(
     write: bool,
 ) -> Result<usize, Refusal>
     ensures kept { write ≡ false → rows.new ≡ rows.old }
-    ensures says { Lists (listing I.Key.Key.order slots.now versions.now name (length rows.old) write (record { last = None; count = 0; table = rows.old }) (rest I.Key.Key.order lower 0 upper (pairs index.now))) rows.new result }
+    ensures says { Lists (listing I.Key.Key.order slots.now versions.now name (length rows.old) write (record { last = None; count = 0; table = rows.old }) (rest I.Key.Key.order lower 0 upper (I.pairs index.now))) rows.new result }
 {
     let mut last = None;
     let mut count = 0;

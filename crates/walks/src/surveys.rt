@@ -45,7 +45,7 @@ pub fn survey_keys<I: Index, V: Copy>(
     upper: I::Key,
     waits: [bool; 64],
 ) -> Result<Survey<I::Key, V>, Refusal>
-    ensures { result ≡ walk I.Key.Key.order slots.now versions.now name (start waits) (rest I.Key.Key.order lower 0 upper (pairs index.now)) }
+    ensures { result ≡ walk I.Key.Key.order slots.now versions.now name (start waits) (rest I.Key.Key.order lower 0 upper (I.pairs index.now)) }
 {
     let mut survey = Survey {
         seen: None,

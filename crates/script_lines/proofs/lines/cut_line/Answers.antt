@@ -6,8 +6,8 @@ use Rattle.script_lines.proofs.lines.cut_line.Goals as goal
 pub returns : goal.returns
 returns c =
     let text = c.args.text.now in
-    let front = c.split-line.ensures.front in
-    let rest = c.split-line.ensures.rest in
+    let front = c.split_line.ensures.front in
+    let rest = c.split_line.ensures.rest in
     record {
       lines = λ h. let e = lines_cut text h in cc;
       shorter = λ h. omega (arith, beyond_shorter text h, ap length rest);

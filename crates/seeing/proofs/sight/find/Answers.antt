@@ -5,7 +5,7 @@ use Rattle.seeing.specs.Slots.{Slots, found, find}
 use Rattle.std.specs.Option.{option_map}
 use Rattle.seeing.proofs.Finding.{find_found}
 use Rattle.seeing.proofs.sight.find.Goals as goal
-use Rattle.seeing.proofs.sight.find.Goals.{in-Some+else-t-name, in-default}
+use Rattle.seeing.proofs.sight.find.Goals.{in-Some+else-t-name, in_default}
 
 not_some : {A : Type 0} (o : Option A) → ((x : A) → o ≡ Some x → ⊥) → o ≡ None
 not_some None h = refl
@@ -37,7 +37,7 @@ loop-i-preserved c = (
   c.loop-i.invariant.0
       ∙ elim c.match-slots-i.branch [
         | in-Some+else-t-name w ↦ miss c.args.slots.now _ _ w.in-Some.t (omega arith) w.in-Some.is w.if-t-name.false
-        | in-default w ↦ skip c.args.slots.now _ _ (omega arith) (not_some (get_or c.args.slots.now c.loop-i.i None) w.in-default.not-Some)
+        | in_default w ↦ skip c.args.slots.now _ _ (omega arith) (not_some (get_or c.args.slots.now c.loop-i.i None) w.in_default.not-Some)
       ],
   c.told-slots,
 )

@@ -4,7 +4,7 @@ use Rattle.slots.proofs.Filled.{fill_step, fill_end}
 use Rattle.slots.proofs.aborts.mark_named.Goals as goal
 
 pub loop-i-preserved : goal.loop-i-preserved
-loop-i-preserved c = fill_step (λ (k : ℕ). is_named c.args.name (get_or c.args.slots.now k None)) c.loop-i.marks c.loop-i.i false c.has-name.result c.loop-i-test.true c.loop-i.invariant c.has-name.ensures
+loop-i-preserved c = fill_step (λ (k : ℕ). is_named c.args.name (get_or c.args.slots.now k None)) c.loop-i.marks c.loop-i.i false c.has_name.result c.loop-i-test.true c.loop-i.invariant c.has_name.ensures
 
 pub returns : goal.returns
 unfolding named_marks

@@ -4,7 +4,7 @@ use Rattle.slots.proofs.Filled.{fill_step, fill_end}
 use Rattle.slots.proofs.aborts.spread_once.Goals as goal
 
 pub loop-i-preserved : goal.loop-i-preserved
-loop-i-preserved c = fill_step (λ (k : ℕ). get_or c.args.marks k false || waits_on c.args.marks (get_or c.args.slots.now k None)) c.loop-i.next c.loop-i.i false c.is-dragged.result c.loop-i-test.true c.loop-i.invariant c.is-dragged.ensures
+loop-i-preserved c = fill_step (λ (k : ℕ). get_or c.args.marks k false || waits_on c.args.marks (get_or c.args.slots.now k None)) c.loop-i.next c.loop-i.i false c.is_dragged.result c.loop-i-test.true c.loop-i.invariant c.is_dragged.ensures
 
 pub returns : goal.returns
 unfolding spread

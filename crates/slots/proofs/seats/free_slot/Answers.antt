@@ -4,13 +4,13 @@ use Rattle.slots.specs.Seats.{free_slot}
 use Rattle.slots.proofs.Seating.{free_slot_more, free_slot_none, free_slot_some}
 use Rattle.slots.proofs.seats.free_slot.Goals as goal
 
-pub returns-then-not-is-taken : goal.returns-then-not-is-taken
-returns-then-not-is-taken c =
-    let e : Some c.loop-i.i ≡ free_slot c.args.slots.now 0 = sym (c.loop-i.invariant.0 ∙ free_slot_more c.args.slots.now c.loop-i.i _ (omega arith) (sym c.if-not-is-taken.ensures)) in
+pub returns-then-not-is_taken : goal.returns-then-not-is_taken
+returns-then-not-is_taken c =
+    let e : Some c.loop-i.i ≡ free_slot c.args.slots.now 0 = sym (c.loop-i.invariant.0 ∙ free_slot_more c.args.slots.now c.loop-i.i _ (omega arith) (sym c.if-not-is_taken.ensures)) in
     record { seats = free_slot_some c.args.slots.now c.loop-i.i e; inside = c.loop-i-test.true }
 
 pub loop-i-preserved : goal.loop-i-preserved
-loop-i-preserved c = (c.loop-i.invariant.0 ∙ free_slot_more c.args.slots.now c.loop-i.i _ (omega arith) (sym c.if-not-is-taken.ensures), c.told-slots)
+loop-i-preserved c = (c.loop-i.invariant.0 ∙ free_slot_more c.args.slots.now c.loop-i.i _ (omega arith) (sym c.if-not-is_taken.ensures), c.told-slots)
 
 pub returns : goal.returns
 returns c =

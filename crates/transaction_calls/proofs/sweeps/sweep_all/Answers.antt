@@ -6,24 +6,24 @@ use Rattle.transaction_calls.proofs.Pairs.{taken_none, taken_more, taken_all}
 use Rattle.transaction_calls.proofs.sweeps.sweep_all.Goals as goal
 
 pub loop-place-init : goal.loop-place-init
-loop-place-init g c = (refl, refl, omega arith, taken_none g.Key.Key.order g.Key.Key.laws.total c.args.slots.now c.args.versions.now (listed g.Key.Key.order (g.I.Index.pairs c.args.index.now)), refl)
+loop-place-init g c = (refl, refl, omega arith, taken_none g.I.Key.Key.order g.I.Key.Key.laws.total c.args.slots.now c.args.versions.now (listed g.I.Key.Key.order (g.I.Index.pairs c.args.index.now)), refl)
 
 pub loop-place-preserved : goal.loop-place-preserved
 loop-place-preserved g c =
-    let n = count_more c.args.slots.now c.args.versions.now c.loop-place.versions c.loop-place.place c.loop-place.count c.one-more-if-count.result c.sweep-at-swept.result c.loop-place-test.true c.loop-place.invariant.0 c.sweep-at-swept.ensures.tells c.one-more-if-count.ensures c.loop-place.invariant.1 c.loop-place.invariant.2 in (
-      freed_more c.args.slots.now c.args.versions.now c.loop-place.versions _ c.loop-place.place c.loop-place-test.true c.loop-place.invariant.0 c.sweep-at-swept.ensures.frees,
+    let n = count_more c.args.slots.now c.args.versions.now c.loop-place.versions c.loop-place.place c.loop-place.count c.one_more_if-count.result c.sweep_at-swept.result c.loop-place-test.true c.loop-place.invariant.0 c.sweep_at-swept.ensures.tells c.one_more_if-count.ensures c.loop-place.invariant.1 c.loop-place.invariant.2 in (
+      freed_more c.args.slots.now c.args.versions.now c.loop-place.versions _ c.loop-place.place c.loop-place-test.true c.loop-place.invariant.0 c.sweep_at-swept.ensures.frees,
       n.0,
       n.1,
-      taken_more g.Key.Key.order g.Key.Key.laws.total c.args.slots.now c.args.versions.now c.loop-place.place (entry c.loop-place.versions c.loop-place.place)
+      taken_more g.I.Key.Key.order g.I.Key.Key.laws.total c.args.slots.now c.args.versions.now c.loop-place.place (entry c.loop-place.versions c.loop-place.place)
           (entry_still c.args.slots.now c.args.versions.now c.loop-place.versions c.loop-place.place c.loop-place.invariant.0)
-          (listed g.Key.Key.order (g.I.Index.pairs c.args.index.now)) _ _ c.loop-place.invariant.3 c.sweep-at-swept.ensures.takes,
-      c.sweep-at-swept.ensures.limit ∙ c.loop-place.invariant.4,
+          (listed g.I.Key.Key.order (g.I.Index.pairs c.args.index.now)) _ _ c.loop-place.invariant.3 c.sweep_at-swept.ensures.takes,
+      c.sweep_at-swept.ensures.limit ∙ c.loop-place.invariant.4,
     )
 
 pub returns : goal.returns
 returns g c = record {
   counts = count_all c.args.slots.now c.args.versions.now c.loop-place.place c.loop-place.count c.loop-place-test.false c.loop-place.invariant.1;
   frees = freed_all c.args.slots.now c.args.versions.now c.loop-place.versions c.loop-place.place c.loop-place-test.false c.loop-place.invariant.0;
-  takes = taken_all g.Key.Key.order g.Key.Key.laws.total c.args.slots.now c.args.versions.now c.loop-place.place c.loop-place-test.false (listed g.Key.Key.order (g.I.Index.pairs c.args.index.now)) _ c.loop-place.invariant.3;
+  takes = taken_all g.I.Key.Key.order g.I.Key.Key.laws.total c.args.slots.now c.args.versions.now c.loop-place.place c.loop-place-test.false (listed g.I.Key.Key.order (g.I.Index.pairs c.args.index.now)) _ c.loop-place.invariant.3;
   limit = c.loop-place.invariant.4;
 }

@@ -10,5 +10,5 @@ invariant-loop-place g l =
     (l.versions ≡ swept_below l.slots l.place l.initial.versions)
     × (l.count ≡ count (sweeps l.slots) (take l.place l.initial.versions))
     × (l.count ≤ l.place)
-    × (listed g.Key.Key.order (g.I.Index.pairs l.index) ≡ left_below g.Key.Key.order l.slots l.initial.versions l.place (listed g.Key.Key.order (g.I.Index.pairs l.initial.index)))
+    × (listed g.I.Key.Key.order (g.I.Index.pairs l.index) ≡ left_below g.I.Key.Key.order l.slots l.initial.versions l.place (listed g.I.Key.Key.order (g.I.Index.pairs l.initial.index)))
     × (g.I.Index.limit l.index ≡ g.I.Index.limit l.initial.index)

@@ -2,4 +2,4 @@ use Rattle.std.proofs.Common.{sym}
 use Rattle.validating.proofs.calls.verdict_on.Goals as goal
 
 pub returns : goal.returns
-returns g c = rw (sym c.if-not-is-serializable.ensures) c.test-notes.ensures
+returns g c = rw (sym c.if-not-is_serializable.ensures) c.test_notes.ensures

@@ -4,10 +4,10 @@ use Rattle.calls.proofs.store.TableStore.perform.Goals as goal
 
 pub returns : goal.returns
 returns g c =
-    let a = answers g.Key.Key.order _ _ c.args.call _ c.carry-out.ensures in
+    let a = answers g.I.Key.Key.order _ _ c.args.call _ c.carry_out.ensures in
     record {
-      exact = c.carry-out.ensures;
+      exact = c.carry_out.ensures;
       answers = a;
-      law = goes_on g.Key.Key.order g.Key.Key.laws.total _ _ c.args.call _ a;
-      opens = begins g.Key.Key.order g.Key.Key.laws.total _ _ c.args.call _ a;
+      law = goes_on g.I.Key.Key.order g.I.Key.Key.laws.total _ _ c.args.call _ a;
+      opens = begins g.I.Key.Key.order g.I.Key.Key.laws.total _ _ c.args.call _ a;
     }

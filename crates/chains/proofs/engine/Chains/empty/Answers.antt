@@ -7,5 +7,5 @@ returns g c =
     record {
       pairs = c.clear.ensures.items;
       limit = refl;
-      valid = none_chained g.row.K-Key.order g.row.K-Key.hashed (vec_items c.clear.new.self) (vec_items c.clear-2.new.self) (vec_items c.reset.new.heads) c.clear.ensures.items (λ k l. c.reset.ensures.zeros k (omega arith));
+      valid = none_chained g.K.Key.order g.K.Key.hashed (vec_items c.clear.new.self) (vec_items c.clear-2.new.self) (vec_items c.reset.new.heads) c.clear.ensures.items (λ k l. c.reset.ensures.zeros k (omega arith));
     }

@@ -6,8 +6,8 @@ use Rattle.chains.proofs.engine.Chains.find.Given as goal
 
 abbrev pub invariant-loop-at : goal.invariant-loop-at
 invariant-loop-at g l =
-    On (bucket g.row.K-Key.hashed l.key) (numbers g.row.K-Key.hashed (held l.self)) l.at
-    × (holds g.row.K-Key.order (drop l.at (held l.self)) (l.key, l.place) ≡ false)
+    On (bucket g.K.Key.hashed l.key) (numbers g.K.Key.hashed (held l.self)) l.at
+    × (holds g.K.Key.order (drop l.at (held l.self)) (l.key, l.place) ≡ false)
 
 abbrev pub decreases-loop-at : goal.decreases-loop-at
 decreases-loop-at g l = l.at

@@ -8,22 +8,22 @@ use Rattle.chains.proofs.engine.Chains.link_in.Goals as goal
 pub above-before-requires : goal.above-before-requires
 above-before-requires g c =
     let hs = vec_items c.args.self.now.heads in
-    let k = c.chain-of-chain.result in
+    let k = c.chain_of-chain.result in
     let small : k < 256 = omega arith in
     let lt : k < length hs = omega arith in
     let e = get_or_read hs k c.index-head.result.now lt c.index-head.ensures 0 in
     record {
       chain = small;
       bound = omega (arith, c.if-head-at.false);
-      wired = (set (numbers g.row.K-Key.hashed (held c.args.self.now)) c.args.at 256, c.requires.wired);
+      wired = (set (numbers g.K.Key.hashed (held c.args.self.now)) c.args.at 256, c.requires.wired);
     }
 
-pub insert-after-requires : goal.insert-after-requires
-insert-after-requires g c =
-    let h = g.row.K-Key.hashed in
+pub insert_after-requires : goal.insert_after-requires
+insert_after-requires g c =
+    let h = g.K.Key.hashed in
     let xs = held c.args.self.now in
     let at = c.args.at in
-    let k = c.chain-of-chain.result in
+    let k = c.chain_of-chain.result in
     let small : k < 256 = omega arith in
     let on_gap = c.above-before.ensures.chain (set (numbers h xs) at 256) c.requires.wired in
     let other = gap_in (numbers h xs) at c.above-before.result (omega arith) in
@@ -33,16 +33,16 @@ insert-after-requires g c =
 
 pub returns-then-head-at : goal.returns-then-head-at
 returns-then-head-at g c =
-    let h = g.row.K-Key.hashed in
+    let h = g.K.Key.hashed in
     let xs = held c.args.self.now in
     let ls = vec_items c.args.self.now.links in
     let hs = vec_items c.args.self.now.heads in
-    let k = c.chain-of-chain.result in
+    let k = c.chain_of-chain.result in
     let at = c.args.at in
     let x = c.args.pair in
     let small : k < 256 = omega arith in
     let lt : k < length hs = omega arith in
-    let on = number_set h xs at x c.requires.within ∙ sym c.chain-of-chain.ensures in
+    let on = number_set h xs at x c.requires.within ∙ sym c.chain_of-chain.ensures in
     let e = get_or_read hs k c.index-head.result.now lt c.index-head.ensures 0 in
     let low : get_or hs k 0 ≤ at = omega (arith, c.if-head-at.true) in
     let next : suc at ≡ at + 1 = omega arith in
@@ -54,17 +54,17 @@ returns-then-head-at g c =
 
 pub returns-else-head-at : goal.returns-else-head-at
 returns-else-head-at g c =
-    let h = g.row.K-Key.hashed in
+    let h = g.K.Key.hashed in
     let xs = held c.args.self.now in
     let ls = vec_items c.args.self.now.links in
     let hs = vec_items c.args.self.now.heads in
-    let k = c.chain-of-chain.result in
+    let k = c.chain_of-chain.result in
     let at = c.args.at in
     let x = c.args.pair in
     let before = c.above-before.result in
     let gap = gap_any h xs at x ls hs c.requires.wired in
     let small : k < 256 = omega arith in
-    let on = number_set h xs at x c.requires.within ∙ sym c.chain-of-chain.ensures in
+    let on = number_set h xs at x c.requires.within ∙ sym c.chain_of-chain.ensures in
     let on_gap = c.above-before.ensures.chain (set (numbers h (set xs at x)) at 256) gap in
     let other = gap_in (numbers h (set xs at x)) at before (omega arith) in
     let past : at < before = let ne = other.0 in omega (arith, c.above-before.ensures.bound) in
@@ -74,6 +74,6 @@ returns-else-head-at g c =
       pairs = refl;
       limit = refl;
       wired =
-          right_by refl ((λ i. set (set ls at (sym link i)) before (next i)) ∙ sym c.insert-after.ensures.items) refl
+          right_by refl ((λ i. set (set ls at (sym link i)) before (next i)) ∙ sym c.insert_after.ensures.items) refl
           (link_link (numbers h (set xs at x)) ls hs at k gap small on before (sym other.1 ∙ on_gap) past c.above-before.ensures.link);
     }

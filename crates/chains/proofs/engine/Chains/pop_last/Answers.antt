@@ -7,7 +7,7 @@ use Rattle.chains.proofs.engine.Chains.pop_last.Goals as goal
 
 pub returns : goal.returns
 returns g c =
-    let h = g.row.K-Key.hashed in
+    let h = g.K.Key.hashed in
     let xs = held c.args.self.now in
     let ls = vec_items c.args.self.now.links in
     let hs = vec_items c.args.self.now.heads in
@@ -29,6 +29,6 @@ returns g c =
           right_by
           (take-map (λ x. bucket h x.0) m xs ∙ sym (ap (numbers h) c.truncate.ensures.items))
           (sym c.truncate-2.ensures.items)
-          (λ i. set hs (sym c.chain-of.ensures i) (sym link i))
+          (λ i. set hs (sym c.chain_of.ensures i) (sym link i))
           (pop_right (numbers h xs) ls hs m b c.requires.wired count (number_at h xs m x lt c.index-pair.ensures) small);
     }

@@ -4,7 +4,7 @@ use Rattle.chains.proofs.engine.Chains.replace.Goals as goal
 pub returns : goal.returns
 returns g c =
     record {
-      pairs = c.link-in.ensures.pairs ∙ ap (λ ys. set ys c.args.at c.args.pair) c.unlink.ensures.pairs;
-      limit = c.link-in.ensures.limit ∙ c.unlink.ensures.limit;
-      wired = c.link-in.ensures.wired;
+      pairs = c.link_in.ensures.pairs ∙ ap (λ ys. set ys c.args.at c.args.pair) c.unlink.ensures.pairs;
+      limit = c.link_in.ensures.limit ∙ c.unlink.ensures.limit;
+      wired = c.link_in.ensures.wired;
     }

@@ -9,58 +9,58 @@ use Rattle.chains.proofs.Rows.{holds_at}
 use Rattle.chains.proofs.Swaps.{distinct_last, holds_last, distinct_moved, holds_moved}
 use Rattle.chains.proofs.engine.Chains.take_out.Goals as goal
 
-pub pop-last-last-requires : goal.pop-last-last-requires
-pop-last-last-requires g c =
+pub pop_last-last-requires : goal.pop_last-last-requires
+pop_last-last-requires g c =
     let f = c.in-Some.ensures in
-    record { wired = wired_of g.row.K-Key.order g.row.K-Key.hashed c.args.self.now c.requires; some = omega (arith, f.0) }
+    record { wired = wired_of g.K.Key.order g.K.Key.hashed c.args.self.now c.requires; some = omega (arith, f.0) }
 
 pub returns-then-at-len : goal.returns-then-at-len
 returns-then-at-len g c =
-    let o = g.row.K-Key.order in
-    let l = g.row.K-Key.laws.total in
+    let o = g.K.Key.order in
+    let l = g.K.Key.laws.total in
     let xs = held c.args.self.now in
     let q : g.row.K.Denot × ℕ = (c.args.key, c.args.place) in
     let i = c.in-Some.at in
-    let w = c.pop-last-last.result in
+    let w = c.pop_last-last.result in
     let m : ℕ = length xs - 1 in
     let f = c.in-Some.ensures in
     let lt : i < length xs = f.0 in
     let long : length xs ≡ suc m = omega arith in
     let short = length-take-le m xs (omega arith) in
-    let cut = ap length c.pop-last-last.ensures.pairs in
+    let cut = ap length c.pop_last-last.ensures.pairs in
     let low : i < m = omega (arith, c.if-at-len.true) in
     let s = distinct-from-test (tie o) xs c.requires.0 in
-    let is : held c.replace.new.self ≡ set (take m xs) i w = c.replace.ensures.pairs ∙ ap (λ ys. set ys i w) c.pop-last-last.ensures.pairs in
-    let apart = subst (IsDistinct (tie o)) (sym is) (distinct_moved o l xs s m long w c.pop-last-last.ensures.pair i q low f.1) in
+    let is : held c.replace.new.self ≡ set (take m xs) i w = c.replace.ensures.pairs ∙ ap (λ ys. set ys i w) c.pop_last-last.ensures.pairs in
+    let apart = subst (IsDistinct (tie o)) (sym is) (distinct_moved o l xs s m long w c.pop_last-last.ensures.pair i q low f.1) in
     let count = ap length is ∙ length-set (take m xs) i w in
     record {
-      says = (holds_at o l xs i q q lt f.1, ap (holds o) is ∙ holds_moved o l xs s m long w c.pop-last-last.ensures.pair i q low f.1, omega arith);
-      limit = c.replace.ensures.limit ∙ c.pop-last-last.ensures.limit;
-      valid = chained_of o g.row.K-Key.hashed c.replace.new.self apart c.replace.ensures.wired;
+      says = (holds_at o l xs i q q lt f.1, ap (holds o) is ∙ holds_moved o l xs s m long w c.pop_last-last.ensures.pair i q low f.1, omega arith);
+      limit = c.replace.ensures.limit ∙ c.pop_last-last.ensures.limit;
+      valid = chained_of o g.K.Key.hashed c.replace.new.self apart c.replace.ensures.wired;
     }
 
 pub returns-else-at-len : goal.returns-else-at-len
 returns-else-at-len g c =
-    let o = g.row.K-Key.order in
-    let l = g.row.K-Key.laws.total in
+    let o = g.K.Key.order in
+    let l = g.K.Key.laws.total in
     let xs = held c.args.self.now in
     let q : g.row.K.Denot × ℕ = (c.args.key, c.args.place) in
     let i = c.in-Some.at in
-    let w = c.pop-last-last.result in
+    let w = c.pop_last-last.result in
     let m : ℕ = length xs - 1 in
     let f = c.in-Some.ensures in
     let lt : i < length xs = f.0 in
     let long : length xs ≡ suc m = omega arith in
     let short = length-take-le m xs (omega arith) in
-    let cut = ap length c.pop-last-last.ensures.pairs in
+    let cut = ap length c.pop_last-last.ensures.pairs in
     let here : i ≡ m = omega (arith, c.if-at-len.false) in
     let in_row : m < length xs = omega arith in
     let s = distinct-from-test (tie o) xs c.requires.0 in
     let at-m = f.1 ∙ ap (λ n. get_or xs n q) here in
-    let same = get_or_read xs m w in_row c.pop-last-last.ensures.pair q ∙ sym at-m in
-    let apart = subst (IsDistinct (tie o)) (sym c.pop-last-last.ensures.pairs) (distinct_last o l xs s m long w c.pop-last-last.ensures.pair) in
+    let same = get_or_read xs m w in_row c.pop_last-last.ensures.pair q ∙ sym at-m in
+    let apart = subst (IsDistinct (tie o)) (sym c.pop_last-last.ensures.pairs) (distinct_last o l xs s m long w c.pop_last-last.ensures.pair) in
     record {
-      says = (holds_at o l xs i q q lt f.1, ap (holds o) c.pop-last-last.ensures.pairs ∙ holds_last o l xs s m long w c.pop-last-last.ensures.pair q at-m same, omega arith);
-      limit = c.pop-last-last.ensures.limit;
-      valid = chained_of o g.row.K-Key.hashed c.pop-last-last.new.self apart c.pop-last-last.ensures.wired;
+      says = (holds_at o l xs i q q lt f.1, ap (holds o) c.pop_last-last.ensures.pairs ∙ holds_last o l xs s m long w c.pop_last-last.ensures.pair q at-m same, omega arith);
+      limit = c.pop_last-last.ensures.limit;
+      valid = chained_of o g.K.Key.hashed c.pop_last-last.new.self apart c.pop_last-last.ensures.wired;
     }

@@ -5,5 +5,5 @@ use Rattle.ordered.proofs.row.Row.next_key.Goals as goal
 
 pub returns : goal.returns
 returns g c =
-    key_some g.row.K-Key.order g.row.K-Key.laws.total (items c.args.self.now) c.args.key c.args.strictly c.in-Some.pair
-    (subst (λ s. First g.row.K-Key.order (items c.args.self.now) c.args.key s (Some c.in-Some.pair)) c.key_start.ensures c.in-Some.ensures)
+    key_some g.K.Key.order g.K.Key.laws.total (items c.args.self.now) c.args.key c.args.strictly c.in-Some.pair
+    (subst (λ s. First g.K.Key.order (items c.args.self.now) c.args.key s (Some c.in-Some.pair)) c.key_start.ensures c.in-Some.ensures)

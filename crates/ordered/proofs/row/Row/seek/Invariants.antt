@@ -4,7 +4,7 @@ use Rattle.ordered.proofs.row.Row.seek.Given as goal
 
 abbrev pub invariant-loop-low : goal.invariant-loop-low
 invariant-loop-low g l =
-    (l.low ≤ l.high) × (l.high ≤ length (items l.self)) × (0 < l.low → (d : g.row.K.Denot × ℕ) → reached g.row.K-Key.order l.key l.start (get_or (items l.self) (l.low - 1) d) ≡ false) × (l.high < length (items l.self) → (d : g.row.K.Denot × ℕ) → reached g.row.K-Key.order l.key l.start (get_or (items l.self) l.high d) ≡ true)
+    (l.low ≤ l.high) × (l.high ≤ length (items l.self)) × (0 < l.low → (d : g.row.K.Denot × ℕ) → reached g.K.Key.order l.key l.start (get_or (items l.self) (l.low - 1) d) ≡ false) × (l.high < length (items l.self) → (d : g.row.K.Denot × ℕ) → reached g.K.Key.order l.key l.start (get_or (items l.self) l.high d) ≡ true)
 
 abbrev pub decreases-loop-low : goal.decreases-loop-low
 decreases-loop-low g l = l.high - l.low

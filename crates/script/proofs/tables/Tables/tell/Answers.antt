@@ -4,14 +4,14 @@ use Rattle.script.proofs.tables.Tables.tell.Goals as goal
 
 pub returns-then-not-goes : goal.returns-then-not-goes
 returns-then-not-goes g c =
-    the_last _ _ c.loop-rest.line _ _ c.loop-rest.invariant.0 c.cut-line.result.0.now _ (c.cut-line.ensures.lines (some_left c.loop-rest.rest.now c.loop-rest-test.ensures)) _ _ c.in-ok-goes.goes c.in-ok-goes.ensures c.if-not-goes.true
+    the_last _ _ c.loop-rest.line _ _ c.loop-rest.invariant.0 c.cut_line.result.0.now _ (c.cut_line.ensures.lines (some_left c.loop-rest.rest.now c.loop-rest-test.ensures)) _ _ c.in_ok-goes.goes c.in_ok-goes.ensures c.if-not-goes.true
 
 pub loop-rest-preserved : goal.loop-rest-preserved
 loop-rest-preserved g c =
     let some = some_left c.loop-rest.rest.now c.loop-rest-test.ensures in
-    let less = c.cut-line.ensures.shorter some in
+    let less = c.cut_line.ensures.shorter some in
     let fits = c.loop-rest.invariant.1 in (
-      one_more _ _ c.loop-rest.line _ _ c.loop-rest.invariant.0 c.cut-line.result.0.now _ (c.cut-line.ensures.lines some) _ _ c.in-ok-goes.goes c.in-ok-goes.ensures c.if-not-goes.false,
+      one_more _ _ c.loop-rest.line _ _ c.loop-rest.invariant.0 c.cut_line.result.0.now _ (c.cut_line.ensures.lines some) _ _ c.in_ok-goes.goes c.in_ok-goes.ensures c.if-not-goes.false,
       omega (arith, less, fits),
     )
 

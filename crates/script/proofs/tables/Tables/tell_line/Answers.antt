@@ -1,10 +1,10 @@
 use Rattle.script.proofs.Telling.{told_done, told_fault}
 use Rattle.script.proofs.tables.Tables.tell_line.Goals as goal
 
-pub returns-in-ok-say-reply : goal.returns-in-ok-say-reply
-returns-in-ok-say-reply g c =
-    told_done c.args.line _ _ _ c.in-Ok.ensures.leaves _ _ c.in-Ok.call c.in-Ok.answer c.in-Ok.ensures.answers c.in-ok-say-reply.ensures
+pub returns-in_ok-say_reply : goal.returns-in_ok-say_reply
+returns-in_ok-say_reply g c =
+    told_done c.args.line _ _ _ c.in-Ok.ensures.leaves _ _ c.in-Ok.call c.in-Ok.answer c.in-Ok.ensures.answers c.in_ok-say_reply.ensures
 
 pub returns-in-Err : goal.returns-in-Err
 returns-in-Err g c =
-    told_fault c.args.line _ _ _ c.in-Err.ensures.leaves _ _ c.in-Err.fault c.in-Err.ensures.answers c.say-script-fault.result c.say-script-fault.ensures
+    told_fault c.args.line _ _ _ c.in-Err.ensures.leaves _ _ c.in-Err.fault c.in-Err.ensures.answers c.say_script_fault.result c.say_script_fault.ensures
