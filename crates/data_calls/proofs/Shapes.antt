@@ -23,7 +23,8 @@ use Rattle.seeing.specs.Phases.{is_active}
 use Rattle.rules.specs.BookRules.{noting, conclude, book_rule}
 use Rattle.index.specs.Listed.{rest}
 use Rattle.data_calls.specs.Cases.{refusal_for}
-use Rattle.data_calls.specs.Calling.{located, world, picked, AnswersFrom, approached, concluding}
+use Rattle.data_calls.specs.Calling.{located, world, picked, Answers, AnswersAround, AnswersFrom, AnswersFromAround, approached, concluding}
+use Rattle.tables.proofs.Picking.{picks_allowed}
 use Rattle.walks.specs.Walk.{start, walk}
 use Rattle.tables.specs.Steps.{Gives}
 use Rattle.seeing.proofs.Finding.{find_found}
@@ -102,6 +103,14 @@ module _ {K V : Type 0} (o : K → K → Ordering) (s : Store) (a b c n : ℕ) (
       (λ x. go_on (λ t. reach_all o s.slots vs ps >>= (λ met. k t (surveyed s.slots n (start t.waits) met))) refl ∙ reach_walk o s.slots vs n x.1.waits ps (k x.1))
 
 -- ---- what a call comes to
+
+-- the free entries picked are allowed
+module _ {K V : Type 0} (o : K → K → Ordering) (vh nh : ℕ) where
+  pub chosen : (w w' : World K V) (n : ℕ) (a : BookCall K V) (r : Checked (Answer V)) → AnswersFrom o vh nh w w' n a r → Answers o w w' n a r
+  chosen w w' n a r h = (picked vh nh w.versions w.notes, picks_allowed vh nh w, h)
+
+  pub chosen_around : (w w' : List (Row K V) → World K V) (n : ℕ) (a : BookCall K V) (r : Checked (Answer V)) → AnswersFromAround o vh nh w w' n a r → AnswersAround o w w' n a r
+  chosen_around w w' n a r h rows = chosen (w rows) (w' rows) n a r (h rows)
 
 module _ {K V : Type 0} (o : K → K → Ordering) (vh nh : ℕ) (w : World K V) (n : ℕ) (call : BookCall K V) (m : Outcome K V) (is : book_rule o (picked vh nh w.versions w.notes) w n call ≡ m) where
   pub answers_by : (w' : World K V) (r : Checked (Answer V)) → or_as_found w m ≡ (w', r) → AnswersFrom o vh nh w w' n call r

@@ -40,7 +40,7 @@ fn sweep_at<I: Index, V: Copy>(
     ensures tells { result ≡ is_some (key_to_sweep slots.now (entry versions.old place)) }
     ensures frees { versions.new ≡ freed_at place (key_to_sweep slots.now (entry versions.old place)) versions.old }
     ensures takes { listed I.Key.Key.order (I.pairs index.new) ≡ taken_out I.Key.Key.order place (key_to_sweep slots.now (entry versions.old place)) (listed I.Key.Key.order (I.pairs index.old)) }
-    ensures limit { limit index.new ≡ limit index.old }
+    ensures limit { I.limit index.new ≡ I.limit index.old }
 {
     let Some(key) = key_to_sweep(slots, held_at(versions, place)) else {
         return false;
@@ -66,7 +66,7 @@ fn sweep_all<I: Index, V: Copy>(
     ensures counts { result ≡ count (λ x. to_sweep slots.now x.held) versions.old }
     ensures frees { versions.new ≡ map (swept_entry slots.now) versions.old }
     ensures takes { listed I.Key.Key.order (I.pairs index.new) ≡ keep (λ x. not (sweeps_pair I.Key.Key.order slots.now versions.old x)) (listed I.Key.Key.order (I.pairs index.old)) }
-    ensures limit { limit index.new ≡ limit index.old }
+    ensures limit { I.limit index.new ≡ I.limit index.old }
 {
     let mut count = 0;
     for place in 0..versions.len() {

@@ -1,7 +1,7 @@
 -- The tests that notes ask for, one after another. Assumes nothing.
 use Rattle.std.proofs.Common.{◌≡◌, ℕ, zero, suc, Bool, true, false, cond, ◌&&◌, List, [], ◌∷◌, ◌++◌, map, None, Ok, Err, Option, Ordering, Less, Equal, Greater, sym, refl, ap, ◌∙◌, arith}
 use Rattle.std.specs.Ordering.{is_le, ordering_then, nat_cmp}
-use Rattle.std.specs.Cmp.{nat_cmp_total}
+use Rattle.std.specs.Cmp.{nat_cmp_is}
 use Rattle.index.specs.Listed.{keep, listed, rest, from_on}
 use Rattle.seeing.specs.declared.Version.{Version}
 use Rattle.seeing.specs.Slots.{Slots}
@@ -46,7 +46,7 @@ module _ {K : Type 0} (o : K → K → Ordering) (xs : List (K × ℕ)) where
 
   least : (p : ℕ) → is_le (nat_cmp 0 p) ≡ true
   least zero = refl
-  least (suc p) = ap is_le (sym (nat_cmp_total.says 0 (suc p) Less (omega arith)))
+  least (suc p) = ap is_le (sym (nat_cmp_is 0 (suc p) Less (omega arith)))
 
   keep_same : (f g : K × ℕ → Bool) → ((x : K × ℕ) → f x ≡ g x) → (ys : List (K × ℕ)) → keep f ys ≡ keep g ys
   keep_same f g h [] = refl

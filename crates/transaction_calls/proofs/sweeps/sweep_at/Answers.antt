@@ -13,7 +13,7 @@ returns g c =
       tells = ap is_some k;
       frees = freed_here c.args.place c.in-Some.key (key_to_sweep c.args.slots.now (entry c.args.versions.now c.args.place)) c.args.versions.now c.set_at.new.table c.free.result k c.free.ensures c.set_at.ensures;
       takes =
-          removed g.I.Key.Key.order g.I.Key.Key.laws.total (g.I.Index.pairs c.args.index.now) (g.I.Index.pairs c.remove-was-there.new.self) (c.in-Some.key, c.args.place) (g.met.I.Index.distinct c.args.index.now) (g.met.I.Index.distinct c.remove-was-there.new.self) c.remove-was-there.result c.remove-was-there.ensures.says
+          removed g.I.Key.Key.order g.I.Key.Key.laws.total (g.I.Index.pairs c.args.index.now) (g.I.Index.pairs c.remove-was_there.new.self) (c.in-Some.key, c.args.place) (g.met.I.Index.distinct c.args.index.now) (g.met.I.Index.distinct c.remove-was_there.new.self) c.remove-was_there.result c.remove-was_there.ensures.says
           ∙ ap (λ (q : Option g.row.I-Key.Denot). taken_out g.I.Key.Key.order c.args.place q (listed g.I.Key.Key.order (g.I.Index.pairs c.args.index.now))) k;
-      limit = c.remove-was-there.ensures.limit;
+      limit = c.remove-was_there.ensures.limit;
     }

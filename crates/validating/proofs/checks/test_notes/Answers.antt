@@ -12,7 +12,7 @@ pub pairs-init : goal.pairs-init
 pairs-init g c = refl
 
 pub returns-in_err-next : goal.returns-in_err-next
-returns-in_err-next g c = rw (exit _ _ c.from_residual.ensures.1) (pair_refused g.I.Key.Key.order c.args.slots.now c.args.versions.now c.args.name c.args.end (g.I.Index.pairs c.args.index.now) c.args.notes.now c.args.waits c.notes.new c.notes.marks c.notes.invariant c.in-Some.note c.in-Some.place c.must_show-show.result c.start_of-ahead.result c.in-Some.ensures c.must_show-show.ensures c.start_of-ahead.ensures c.pairs.ahead c.pairs.marks c.pairs.invariant (g.I.Index.limit c.args.index.now) c.in-Some-next_ahead.pair c.in-Some-next_ahead.ensures c.in_err-next.field-0.0 c.in_err-next.ensures.says)
+returns-in_err-next g c = rw (exit _ _ c.from_residual.ensures.1) (pair_refused g.I.Key.Key.order c.args.slots.now c.args.versions.now c.args.name c.args.end (g.I.Index.pairs c.args.index.now) c.args.notes.now c.args.waits c.notes.last c.notes.marks c.notes.invariant c.in-Some.note c.in-Some.place c.must_show-show.result c.start_of-ahead.result c.in-Some.ensures c.must_show-show.ensures c.start_of-ahead.ensures c.pairs.ahead c.pairs.marks c.pairs.invariant (g.I.Index.limit c.args.index.now) c.in-Some-next_ahead.pair c.in-Some-next_ahead.ensures c.in_err-next.field-0.0 c.in_err-next.ensures.says)
 
 pub pairs-smaller : goal.pairs-smaller
 pairs-smaller g c = omega (arith, ap length c.in-Some-next_ahead.ensures, ap (λ a. length (pairs_ahead g.I.Key.Key.order (g.I.Index.pairs c.args.index.now) a)) c.past-ahead.ensures)
@@ -24,10 +24,10 @@ pub notes-smaller : goal.notes-smaller
 notes-smaller g c = omega (arith, ap length c.in-Some.ensures)
 
 pub notes-preserved : goal.notes-preserved
-notes-preserved g c = note_done g.I.Key.Key.order c.args.slots.now c.args.versions.now c.args.name c.args.end (g.I.Index.pairs c.args.index.now) c.args.notes.now c.args.waits c.notes.new c.notes.marks c.notes.invariant c.in-Some.note c.in-Some.place c.must_show-show.result c.start_of-ahead.result c.in-Some.ensures c.must_show-show.ensures c.start_of-ahead.ensures c.pairs.ahead c.pairs.marks c.pairs.invariant c.in_default-next_ahead.ensures
+notes-preserved g c = note_done g.I.Key.Key.order c.args.slots.now c.args.versions.now c.args.name c.args.end (g.I.Index.pairs c.args.index.now) c.args.notes.now c.args.waits c.notes.last c.notes.marks c.notes.invariant c.in-Some.note c.in-Some.place c.must_show-show.result c.start_of-ahead.result c.in-Some.ensures c.must_show-show.ensures c.start_of-ahead.ensures c.pairs.ahead c.pairs.marks c.pairs.invariant c.in_default-next_ahead.ensures
 
 pub returns-in_default : goal.returns-in_default
-returns-in_default g c = notes_done g.I.Key.Key.order c.args.slots.now c.args.versions.now c.args.name c.args.end (g.I.Index.pairs c.args.index.now) c.args.notes.now c.args.waits c.notes.new c.notes.marks c.notes.invariant (g.I.Index.limit c.args.index.now) c.in_default.ensures
+returns-in_default g c = notes_done g.I.Key.Key.order c.args.slots.now c.args.versions.now c.args.name c.args.end (g.I.Index.pairs c.args.index.now) c.args.notes.now c.args.waits c.notes.last c.notes.marks c.notes.invariant (g.I.Index.limit c.args.index.now) c.in_default.ensures
 
 pub returns-in-Against : goal.returns-in-Against
-returns-in-Against g c = pair_against g.I.Key.Key.order c.args.slots.now c.args.versions.now c.args.name c.args.end (g.I.Index.pairs c.args.index.now) c.args.notes.now c.args.waits c.notes.new c.notes.marks c.notes.invariant c.in-Some.note c.in-Some.place c.must_show-show.result c.start_of-ahead.result c.in-Some.ensures c.must_show-show.ensures c.start_of-ahead.ensures c.pairs.ahead c.pairs.marks c.pairs.invariant (g.I.Index.limit c.args.index.now) c.in-Some-next_ahead.pair c.in-Some-next_ahead.ensures c.in_ok-next.field-0 c.in-Against.is c.in_ok-next.ensures.says
+returns-in-Against g c = pair_against g.I.Key.Key.order c.args.slots.now c.args.versions.now c.args.name c.args.end (g.I.Index.pairs c.args.index.now) c.args.notes.now c.args.waits c.notes.last c.notes.marks c.notes.invariant c.in-Some.note c.in-Some.place c.must_show-show.result c.start_of-ahead.result c.in-Some.ensures c.must_show-show.ensures c.start_of-ahead.ensures c.pairs.ahead c.pairs.marks c.pairs.invariant (g.I.Index.limit c.args.index.now) c.in-Some-next_ahead.pair c.in-Some-next_ahead.ensures c.in_ok-next.field-0 c.in-Against.is c.in_ok-next.ensures.says
