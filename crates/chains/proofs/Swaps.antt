@@ -1,13 +1,14 @@
 -- A pair put at the end, taken off it, and put in the place of another. Assumes nothing.
 use Rattle.std.proofs.Common.{◌≡◌, ℕ, zero, suc, ◌+◌, ◌<◌, Bool, true, false, not, ◌&&◌, ◌||◌, List, [], ◌∷◌, ◌++◌, length, get_or, take, set, Ordering, sym, refl, ap, ◌∙◌, subst, true≢false, arith}
 use Rattle.std.specs.List.{AllByRecursion, IsDistinct}
-use Rattle.std.proofs.SortedKeys.{tied-flip}
-use Rattle.std.proofs.Lookup.{all-get}
+use Rattle.std.specs.Ordering.{is_eq}
+use Rattle.std.specs.Cmp.{tied_back}
+use Rattle.std.proofs.lemmas.List.Elements.{All-from_recursion}
 use Rattle.std.proofs.lemmas.List.{take_more, take_all, get_or-take, length-take-le}
 use Rattle.std.proofs.lemmas.Bool.{or_parts}
 use Rattle.keys.specs.Laws.{TotalOrder}
-use Rattle.index.specs.Sets.{tie, holds, plus, minus}
-use Rattle.index.proofs.Pairs.{pair_total, same_tie}
+use Rattle.index.specs.Sets.{pair_order, tie, holds, plus, minus}
+use Rattle.index.proofs.Pairs.{pair_total, same_tie, false_unless, is_equal}
 
 or_turn : (a b c : Bool) → (a || (b || c)) ≡ (b || (a || c))
 or_turn true true c = refl
@@ -40,7 +41,7 @@ module _ {A : Type 0} (P : A → Type 0) where
 
 module _ {K : Type 0} (o : K → K → Ordering) (laws : TotalOrder o) where
   flipped : (x y : K × ℕ) → tie o x y ≡ false → tie o y x ≡ false
-  flipped x y e = tied-flip (pair_total o laws) y x ∙ e
+  flipped x y e = false_unless (tie o y x) (λ t. true≢false (sym (ap is_eq (tied_back (pair_total o laws) y x (is_equal (pair_order o y x) t))) ∙ e))
 
   none_held : (q : K × ℕ) (xs : List (K × ℕ)) → AllByRecursion (λ y. tie o q y ≡ false) xs → holds o xs q ≡ false
   none_held q [] a = refl
@@ -94,7 +95,7 @@ module _ {K : Type 0} (o : K → K → Ordering) (laws : TotalOrder o) where
   set_at (y ∷ ys) (suc i) w q x s l e =
       ap (λ t. tie o x y || t) (set_at ys i w q x s.1 (omega arith) e)
       ∙ passed (tie o x y) (tie o x w) (tie o x q) (holds o ys x)
-      (λ t. ap (λ z. tie o z y) (same_tie o laws x q t ∙ e) ∙ flipped y (get_or ys i q) (all-get (λ z. tie o y z ≡ false) q ys i s.0 (omega arith)))
+      (λ t. ap (λ z. tie o z y) (same_tie o laws x q t ∙ e) ∙ flipped y (get_or ys i q) (All-from_recursion (λ z. tie o y z ≡ false) ys s.0 i q (omega arith)))
 
   -- ---- a pair taken out: the last one, w, takes its place
 
@@ -136,7 +137,7 @@ module _ {K : Type 0} (o : K → K → Ordering) (laws : TotalOrder o) where
       other : (x : K × ℕ) → tie o x q ≡ true → tie o x w ≡ false
       other x t =
           ap (λ z. tie o z w) (same_tie o laws x q t ∙ here)
-          ∙ flipped w (get_or (take m xs) i q) (all-get (λ z. tie o w z ≡ false) q (take m xs) i (held_none w (take m xs) both.1) within)
+          ∙ flipped w (get_or (take m xs) i q) (All-from_recursion (λ z. tie o w z ≡ false) (take m xs) (held_none w (take m xs) both.1) i q within)
 
       turn : (u t b : Bool) → (t ≡ true → u ≡ false) → (u || (not t && b)) ≡ (not t && (u || b))
       turn u true b h = ap (λ v. v || false) (h refl)

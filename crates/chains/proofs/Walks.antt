@@ -1,9 +1,8 @@
 -- Walks along a chain, by positions. Assumes nothing.
-use Rattle.std.proofs.Common.{◌≡◌, ℕ, suc, ◌-◌, ◌<◌, ◌≤◌, T, List, [], length, get_or, set, Ordering, sym, ap, ◌∙◌, subst, arith}
+use Rattle.std.proofs.Common.{◌≡◌, ℕ, suc, ◌-◌, ◌<◌, ◌≤◌, List, [], length, get_or, set, Ordering, sym, ap, ◌∙◌, subst, arith}
 use Rattle.std.specs.List.{IsDistinct}
-use Rattle.std.specs.Map.Invariant.{is-distinct}
-use Rattle.std.proofs.lemmas.Map.Invariant.{test-from-distinct}
 use Rattle.std.proofs.lemmas.List.{get_or_read, get_or-map, get_or-set_same, length-map, map-set, set-set}
+use Rattle.keys.specs.declared.Key.{Ghosts}
 use Rattle.index.specs.Sets.{tie}
 use Rattle.chains.specs.declared.engine.Chains.{Chains}
 use Rattle.chains.specs.Chained.{held, bucket, numbers, last_of, Linked, Headed, Chained, Right, Wired}
@@ -47,18 +46,19 @@ module _ (c : ℕ) (small : c < 256) (cs ls hs : List ℕ) (r : Right cs ls hs) 
     next_less = let e = next_is in let l = last_low c cs (at - 1) in omega arith
 
 -- what an index says of its engine, and what the changes say of it
-pub wired_of : {K : Type 0} (o : K → K → Ordering) (h : K → ℕ) (s : Chains K) → Chained o h s → Wired (numbers h (held s)) s
+pub wired_of : {K : Type 0} {g : Ghosts K} (o : K → K → Ordering) (h : K → ℕ) (s : Chains K g) → Chained o h s → Wired (numbers h (held s)) s
 wired_of o h s c =
     let long = length-map (held s) (λ x. bucket h x.0) in
     record { even = omega arith; fixed = omega arith; links = c.1; heads = c.2 }
 
-pub chained_of : {K : Type 0} (o : K → K → Ordering) (h : K → ℕ) (s : Chains K) → IsDistinct (tie o) (held s) → Wired (numbers h (held s)) s → Chained o h s
-chained_of o h s d w = (test-from-distinct (tie o) (held s) d, w.links, w.heads)
+pub chained_of : {K : Type 0} {g : Ghosts K} (o : K → K → Ordering) (h : K → ℕ) (s : Chains K g) → IsDistinct (tie o) (held s) → Wired (numbers h (held s)) s → Chained o h s
+chained_of o h s d w = (d, w.links, w.heads)
 
 -- no pair, and each chain ends where it begins
-pub none_chained : {K : Type 0} (o : K → K → Ordering) (h : K → ℕ) (xs : List (K × ℕ)) (ls hs : List ℕ) → xs ≡ [] → ((c : ℕ) → c < 256 → get_or hs c 0 ≡ 0) → T (is-distinct (tie o) xs) × Linked (numbers h xs) ls × Headed (numbers h xs) hs
+pub none_chained : {K : Type 0} (o : K → K → Ordering) (h : K → ℕ) (xs : List (K × ℕ)) (ls hs : List ℕ) → xs ≡ [] → ((c : ℕ) → c < 256 → get_or hs c 0 ≡ 0) → IsDistinct (tie o) xs × Linked (numbers h xs) ls × Headed (numbers h xs) hs
+unfolding IsDistinct
 none_chained o h xs ls hs e z = (
-  subst (λ ys. T (is-distinct (tie o) ys)) (sym e) tt,
+  subst (IsDistinct (tie o)) (sym e) tt,
   subst (λ ys. Linked (numbers h ys) ls) (sym e) (λ j l. absurd (omega arith)),
   subst (λ ys. Headed (numbers h ys) hs) (sym e) z,
 )

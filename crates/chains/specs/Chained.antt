@@ -3,13 +3,14 @@
 --     numbers h xs      the chain of each pair
 --     last_of c cs n      one more than the last position below n that is in the chain c, or 0
 --     Right cs ls hs      the links ls and the heads hs are those of the chains cs
-use Rattle.std.specs.Prelude.{◌≡◌, ℕ, zero, suc, ◌%◌, ◌<◌, cond, T, List, map, length, vec_items, ◌==◌, slice_index, slice_index_or}
+use Rattle.std.specs.Prelude.{◌≡◌, ℕ, zero, suc, ◌%◌, ◌<◌, cond, List, map, length, vec_items, ◌==◌, slice_index, slice_index_or}
 use Rattle.std.specs.declared.cmp.Ordering.{Ordering}
-use Rattle.std.specs.Map.Invariant.{is-distinct}
+use Rattle.std.specs.List.{IsDistinct}
+use Rattle.keys.specs.declared.Key.{Ghosts}
 use Rattle.index.specs.Sets.{tie}
 use Rattle.chains.specs.declared.engine.Chains.{Chains}
 
-abbrev pub held : {K : Type 0} → Chains K → List (K × ℕ)
+abbrev pub held : {K : Type 0} {g : Ghosts K} → Chains K g → List (K × ℕ)
 held s = vec_items s.pairs
 
 abbrev pub bucket : {K : Type 0} → (K → ℕ) → K → ℕ
@@ -38,18 +39,18 @@ pub record Right (cs ls hs : List ℕ) : Type 0 where
   pub heads : Headed cs hs
 
 -- what a kind of chain index adds to the engine that it holds: each pair stands once, and the chains are right
-abbrev pub Once : {K : Type 0} → (K → K → Ordering) → Chains K → Type 0
-Once o s = T (is-distinct (tie o) (held s))
+abbrev pub Once : {K : Type 0} {g : Ghosts K} → (K → K → Ordering) → Chains K g → Type 0
+Once o s = IsDistinct (tie o) (held s)
 
-abbrev pub LinksRight : {K : Type 0} → (K → ℕ) → Chains K → Type 0
+abbrev pub LinksRight : {K : Type 0} {g : Ghosts K} → (K → ℕ) → Chains K g → Type 0
 LinksRight h s = Linked (numbers h (held s)) (vec_items s.links)
 
-abbrev pub HeadsRight : {K : Type 0} → (K → ℕ) → Chains K → Type 0
+abbrev pub HeadsRight : {K : Type 0} {g : Ghosts K} → (K → ℕ) → Chains K g → Type 0
 HeadsRight h s = Headed (numbers h (held s)) (vec_items s.heads)
 
-abbrev pub Chained : {K : Type 0} → (K → K → Ordering) → (K → ℕ) → Chains K → Type 0
+abbrev pub Chained : {K : Type 0} {g : Ghosts K} → (K → K → Ordering) → (K → ℕ) → Chains K g → Type 0
 Chained o h s = Once o s × LinksRight h s × HeadsRight h s
 
 -- the chains of the engine are cs
-abbrev pub Wired : {K : Type 0} → List ℕ → Chains K → Type 0
+abbrev pub Wired : {K : Type 0} {g : Ghosts K} → List ℕ → Chains K g → Type 0
 Wired cs s = Right cs (vec_items s.links) (vec_items s.heads)

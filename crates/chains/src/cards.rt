@@ -1,6 +1,7 @@
 // A chain index of card numbers.
 ghost use Rattle.keys.specs.Kinds.{card_order, card_hash};
 ghost use Rattle.chains.specs.Chained.{Once, LinksRight, HeadsRight};
+ghost use Rattle.std.proofs.Props.{props};
 
 use crate::engine::Chains;
 use keys::CardNumber;
@@ -9,7 +10,7 @@ use keys::CardNumber;
 #[derive(Drop)]
 pub struct CardChains {
     pub(crate) engine: Chains<CardNumber>,
-    ghost once: { Once card_order engine },
+    ghost once: { Once card_order engine } by { Prim.hlevel props },
     ghost links: { LinksRight card_hash engine },
     ghost heads: { HeadsRight card_hash engine },
 }

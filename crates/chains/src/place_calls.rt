@@ -1,9 +1,6 @@
 // The calls of a chain index of places on the board.
 ghost use Rattle.std.specs.Prelude.{◌≡◌, [], IfOk};
 ghost use Rattle.chains.specs.Chained.{held};
-ghost use Rattle.std.proofs.lemmas.Map.Invariant.{distinct-from-test};
-ghost use Rattle.keys.specs.Kinds.{place_order};
-ghost use Rattle.index.specs.Sets.{tie};
 ghost use Rattle.std.proofs.Common.{rules, arith};
 
 use crate::engine::Chains;
@@ -29,7 +26,7 @@ impl Index for PlaceChains {
 
     ghost limit = { λ s. s.engine.limit };
 
-    ghost distinct = { λ s. distinct-from-test (tie place_order) (held s.engine) s.once };
+    ghost distinct = { λ s. s.once };
 
     ghost within = { first_of (Prim.search rules, Prim.grind (arith, Self.row.coded.inj)) };
 

@@ -1,6 +1,7 @@
 // A chain index of places on the board.
 ghost use Rattle.keys.specs.Kinds.{place_order, place_hash};
 ghost use Rattle.chains.specs.Chained.{Once, LinksRight, HeadsRight};
+ghost use Rattle.std.proofs.Props.{props};
 
 use crate::engine::Chains;
 use keys::BoardPlace;
@@ -9,7 +10,7 @@ use keys::BoardPlace;
 #[derive(Drop)]
 pub struct PlaceChains {
     pub(crate) engine: Chains<BoardPlace>,
-    ghost once: { Once place_order engine },
+    ghost once: { Once place_order engine } by { Prim.hlevel props },
     ghost links: { LinksRight place_hash engine },
     ghost heads: { HeadsRight place_hash engine },
 }

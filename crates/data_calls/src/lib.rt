@@ -1,4 +1,5 @@
 // The calls on rows: read, scan, insert, update and delete.
+#![tactic(auto)]
 
 mod answers;
 mod cases;

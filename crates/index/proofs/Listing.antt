@@ -1,13 +1,13 @@
 -- The set of an index as one list in order: what the calls of the trait say of it. Assumes nothing.
-use Rattle.std.proofs.Common.{◌≡◌, ℕ, zero, suc, ◌+◌, ◌<◌, ◌≤◌, Bool, true, false, cond, not, ◌&&◌, ◌||◌, ◌⊎◌, List, [], ◌∷◌, length, Some, None, Option, Ordering, Less, Equal, Greater, sym, refl, ap, ◌∙◌, subst, inl, inr, ⊎_elim, true≢false, arith}
-use Rattle.std.specs.Ordering.{is_eq, is_lt, is_le, is_gt, ordering_reverse, ordering_then}
+use Rattle.std.proofs.Common.{◌≡◌, ℕ, suc, ◌+◌, Bool, true, false, cond, not, ◌&&◌, ◌||◌, ◌⊎◌, List, [], ◌∷◌, length, Some, None, Ordering, Less, Equal, Greater, sym, refl, ap, ◌∙◌, inl, inr, ⊎_elim, true≢false, arith}
+use Rattle.std.specs.Ordering.{is_eq, is_lt, is_le, ordering_reverse}
 use Rattle.std.specs.List.{AllByRecursion, IsDistinct}
 use Rattle.std.specs.List.Sorted.{IsStrictlySortedBy}
-use Rattle.std.proofs.lemmas.Bool.{and_parts, and_from, and_right, and_left, cases_Bool}
+use Rattle.std.proofs.lemmas.Bool.{and_parts, and_from, and_right, and_left}
 use Rattle.keys.specs.Laws.{TotalOrder}
-use Rattle.index.specs.Sets.{pair_order, tie, holds, plus, minus, Lowest, LowestKey, reaches}
+use Rattle.index.specs.Sets.{pair_order, tie, holds, plus, minus}
 use Rattle.index.specs.Listed.{keep, with_pair, listed, from_on, rest, Next}
-use Rattle.index.proofs.Pairs.{pair_total, same_pair, same_tie, tie_itself, false_unless, three, le_cases, Lt, Le, le_lt, lt_le, turned, not_both, le_unless, lt_tie, gt_tie, lt_parts, le_parts, lt_key, lt_place, less_not_same, next_above, above_next}
+use Rattle.index.proofs.Pairs.{pair_total, same_pair, same_tie, tie_itself, false_unless, three, Lt, Le, le_lt, turned, lt_tie, lt_place, next_above, above_next}
 
 or_turn : (a b c : Bool) → (a || (b || c)) ≡ (b || (a || c))
 or_turn true true c = refl

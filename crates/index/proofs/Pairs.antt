@@ -1,9 +1,9 @@
 -- The order of pairs. Assumes nothing.
-use Rattle.std.proofs.Common.{◌≡◌, ℕ, ◌+◌, ◌<◌, ◌≤◌, Bool, true, false, not, ◌&&◌, ◌||◌, ◌⊎◌, List, [], ◌∷◌, Ordering, Less, Equal, Greater, sym, refl, ap, ◌∙◌, subst, inl, inr, ⊎_elim, true≢false, arith}
-use Rattle.std.specs.Ordering.{is_eq, is_lt, is_le, is_gt, ordering_reverse, ordering_then, MatchOrdering, nat_cmp}
+use Rattle.std.proofs.Common.{◌≡◌, ℕ, ◌+◌, ◌<◌, ◌≤◌, Bool, true, false, ◌⊎◌, Ordering, Less, Equal, Greater, sym, refl, ap, ◌∙◌, inl, inr, ⊎_elim, true≢false, arith}
+use Rattle.std.specs.Ordering.{is_eq, is_lt, is_le, is_gt, ordering_reverse, ordering_then, nat_cmp}
 use Rattle.std.specs.Cmp.{IsTotalOrder, nat_cmp_total, nat_cmp_is, ranks, means, below_irrefl, below_chain, tied_itself, on_total, then_total}
 use Rattle.keys.specs.Laws.{TotalOrder}
-use Rattle.index.specs.Sets.{pair_order, tie, answers}
+use Rattle.index.specs.Sets.{pair_order, tie}
 
 rank_same : (m n : ℕ) → nat_cmp m n ≡ Equal → m ≡ n
 rank_same m n e = means (λ (x y : ℕ). x < y) below_irrefl below_chain nat_cmp ranks m n Equal e

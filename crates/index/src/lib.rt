@@ -1,4 +1,6 @@
 // What an index is: a set of pairs of a key and a place, with room for a fixed number of pairs.
+#![tactic(auto)]
+
 ghost use Rattle.std.specs.Prelude.{◌≡◌, ℕ, ◌≤◌, List, [], length};
 ghost use Rattle.std.specs.List.{IsDistinct};
 ghost use Rattle.index.specs.Sets.{tie, holds, Lowest, LowestKey};

@@ -1,8 +1,8 @@
 -- The orders and hash numbers of the two kinds of key, and that they are lawful. Assumes nothing.
-use Rattle.std.specs.Prelude.{◌≡◌, ℕ, ◌+◌, ◌*◌, ◌<◌, Bool, true, false, refl}
+use Rattle.std.specs.Prelude.{◌≡◌, ℕ, ◌+◌, ◌*◌, ◌<◌, true, refl}
 use Rattle.std.specs.declared.cmp.Ordering.TheVariants.{Less, Equal, Greater}
 use Rattle.std.specs.declared.cmp.Ordering.{Ordering}
-use Rattle.std.proofs.Common.{sym, ap, ◌∙◌, true≢false}
+use Rattle.std.proofs.Common.{sym, ap, true≢false}
 use Rattle.std.specs.Ordering.{ordering_then, is_lt, is_gt, is_eq, nat_cmp}
 use Rattle.std.specs.Cmp.{IsTotalOrder, nat_cmp_total, ranks, means, one_rank, below_irrefl, below_chain, on_total, then_total}
 use Rattle.keys.specs.Laws.{TotalOrder, KeyLaws, equal_by}

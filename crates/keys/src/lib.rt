@@ -1,4 +1,6 @@
 // Kinds of key, with the order, the equality and the hash number that an index rests on, and two kinds of value.
+#![tactic(auto)]
+
 ghost use Rattle.std.specs.Prelude.{◌≡◌, ℕ, Bool};
 ghost use Rattle.std.specs.declared.cmp.Ordering.{Ordering};
 ghost use Rattle.keys.specs.Laws.{KeyLaws, equal_by};

@@ -1,19 +1,17 @@
 -- The first pair that a search reaches, and what the calls say of it. Assumes nothing.
-use Rattle.std.proofs.Common.{◌≡◌, ℕ, ◌-◌, ◌<◌, ◌≤◌, Bool, true, false, ◌⊎◌, List, length, get_or, take, drop, Some, None, Ok, Err, Ordering, Less, Equal, Greater, sym, refl, ap, ◌∙◌, subst, inl, inr, ⊎_elim, true≢false, arith}
-use Rattle.std.specs.Ordering.{is_eq, is_lt, is_le, ordering_then, MatchOrdering, nat_cmp}
+use Rattle.std.proofs.Common.{◌≡◌, ℕ, ◌<◌, ◌≤◌, Bool, true, false, List, length, get_or, take, drop, Some, None, Ordering, Less, Equal, Greater, sym, refl, ap, ◌∙◌, subst, ⊎_elim, true≢false, arith}
+use Rattle.std.specs.Ordering.{is_lt, is_le, ordering_then, MatchOrdering, nat_cmp}
 use Rattle.std.specs.Cmp.{ranks}
 use Rattle.std.specs.List.{AllByRecursion}
 use Rattle.std.specs.List.Sorted.{IsStrictlySortedBy}
-use Rattle.std.specs.BTreeMap.Search.{IsAbovePreviousKey, IsKeySearchResult}
-use Rattle.std.proofs.Lookup.{All-map}
-use Rattle.std.proofs.lemmas.List.{drop_all, get_or_read}
+use Rattle.std.proofs.lemmas.List.{drop_all}
 use Rattle.keys.specs.Laws.{TotalOrder}
-use Rattle.index.specs.Sets.{pair_order, answers, tie, holds, Lowest, LowestKey, reaches}
-use Rattle.index.proofs.Pairs.{pair_total, same_tie, false_unless, is_equal, Lt, Le, le_lt, le_unless, not_both, lt_parts, le_parts, lt_key, lt_place, less_not_same}
+use Rattle.index.specs.Sets.{pair_order, tie, LowestKey, reaches}
+use Rattle.index.proofs.Pairs.{same_tie, false_unless, Lt, le_lt, not_both, lt_parts, lt_key}
 use Rattle.ordered.specs.declared.start.Start.{Start}
 use Rattle.ordered.specs.declared.start.Start.TheVariants.{At, After}
 use Rattle.ordered.specs.Rows.{reached, key_start, Bound, First}
-use Rattle.ordered.specs.RowsLemmas.{holds_at, failing, onward, not_in}
+use Rattle.ordered.proofs.Rows.{all_weaker, holds_at, failing, onward, not_in}
 
 is_less : (r : Ordering) → is_lt r ≡ true → r ≡ Less
 is_less Less h = refl
@@ -37,7 +35,7 @@ module _ {K : Type 0} (o : K → K → Ordering) (laws : TotalOrder o) where
     -- a pair that is reached is not among those before i
     front : (y : K × ℕ) → reached o k start y ≡ true → AllByRecursion (λ z. tie o y z ≡ false) (take i xs)
     front y h =
-        All-map (λ z. reached o k start z ≡ false) (λ z. tie o y z ≡ false)
+        all_weaker (λ z. reached o k start z ≡ false) (λ z. tie o y z ≡ false)
         (λ z n. false_unless (tie o y z) (λ t. true≢false (sym h ∙ ap (reached o k start) (same_tie o laws y z t) ∙ n))) (take i xs)
         (failing o laws (reached o k start) (upward k start) xs i y s b.0 (λ l. b.1 l y))
 
@@ -50,34 +48,9 @@ module _ {K : Type 0} (o : K → K → Ordering) (laws : TotalOrder o) where
       holds_at o laws xs i x x l e,
       λ y h f.
           not_in o laws xs i y (front y h)
-          (All-map (λ z. is_le (pair_order o (get_or xs i x) z) ≡ true) (λ z. tie o y z ≡ false)
+          (all_weaker (λ z. is_le (pair_order o (get_or xs i x) z) ≡ true) (λ z. tie o y z ≡ false)
           (λ z g. false_unless (tie o y z) (λ t. not_both o laws x y f (ap (λ w. is_le (pair_order o x w)) (same_tie o laws y z t) ∙ ap (λ w. is_le (pair_order o w z)) e ∙ g))) (drop i xs) (onward o laws xs i x s l)),
     )
-
-  -- ---- where a pair stands
-
-  module _ (xs : List (K × ℕ)) (q : K × ℕ) (i : ℕ) (b : Bound (reached o q.0 (At q.1)) xs i) where
-    over : IsAbovePreviousKey (answers (pair_order o)) xs q i
-    over h = not_le (pair_order o q (get_or xs (i - 1) q)) (b.1 h q)
-      where
-        not_le : (r : Ordering) → is_le r ≡ false → Greater ≡ r
-        not_le Less e = absurd (true≢false e)
-        not_le Equal e = absurd (true≢false e)
-        not_le Greater e = refl
-
-    pub stands_at : (x : K × ℕ) → i < length xs → x ≡ get_or xs i x → is_eq (pair_order o q x) ≡ true → IsKeySearchResult (answers (pair_order o)) xs q (Ok i)
-    stands_at x l e t = (l, sym (is_equal (pair_order o q x) t) ∙ ap (pair_order o q) (get_or_read xs i x l e q))
-
-    pub stands_before : (x : K × ℕ) → i < length xs → x ≡ get_or xs i x → is_eq (pair_order o q x) ≡ false → IsKeySearchResult (answers (pair_order o)) xs q (Err i)
-    stands_before x l e t = (b.0, over, λ _. below (pair_order o q (get_or xs i q)) (b.2 l q) (sym (ap (λ w. is_eq (pair_order o q w)) (get_or_read xs i x l e q)) ∙ t))
-      where
-        below : (r : Ordering) → is_le r ≡ true → is_eq r ≡ false → Less ≡ r
-        below Less h n = refl
-        below Equal h n = absurd (true≢false n)
-        below Greater h n = absurd (true≢false (sym h))
-
-    pub stands_last : length xs ≤ i → IsKeySearchResult (answers (pair_order o)) xs q (Err i)
-    stands_last l = (b.0, over, λ h. absurd (omega arith))
 
   -- ---- the lowest key
 

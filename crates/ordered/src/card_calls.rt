@@ -1,11 +1,10 @@
 // The calls of the index of cards.
-ghost use Rattle.std.specs.Prelude.{◌≡◌, [], IfOk};
+ghost use Rattle.std.specs.Prelude.{◌≡◌, ◌≤◌, [], IfOk};
 ghost use Rattle.ordered.specs.Held.{card_pairs, card_limit};
-ghost use Rattle.std.proofs.lemmas.Map.Invariant.{sorted-from-test};
-ghost use Rattle.keys.specs.Kinds.{card_order, card_total};
+ghost use Rattle.std.proofs.lemmas.Map.Keys.{IsDistinct-from_sorted};
+ghost use Rattle.keys.specs.Kinds.{card_order};
 ghost use Rattle.index.specs.Sets.{pair_order};
-ghost use Rattle.ordered.specs.RowsLemmas.{distinct_from_sorted};
-ghost use Rattle.std.proofs.Common.{rules, arith};
+ghost use Rattle.std.proofs.Common.{subst};
 
 use crate::cards::CardsInOrder;
 use crate::row::Row;
@@ -30,9 +29,9 @@ impl Index for CardsInOrder {
 
     ghost limit = { card_limit };
 
-    ghost distinct = { λ s. distinct_from_sorted card_order card_total (card_pairs s) (sorted-from-test (pair_order card_order) (card_pairs s) s.sorted) };
+    ghost distinct = { λ s. IsDistinct-from_sorted (pair_order card_order) (card_pairs s) s.sorted };
 
-    ghost within = { first_of (Prim.search rules, Prim.grind (arith, Self.row.coded.inj)) };
+    ghost within = { λ s. subst (λ n. n ≤ s.row.limit) s.row.pairs.ok.0 s.row.few };
 
     fn capacity(&self) -> usize {
         self.row.limit

@@ -1,11 +1,10 @@
 // The calls of the index of board places.
-ghost use Rattle.std.specs.Prelude.{◌≡◌, [], IfOk};
+ghost use Rattle.std.specs.Prelude.{◌≡◌, ◌≤◌, [], IfOk};
 ghost use Rattle.ordered.specs.Held.{place_pairs, place_limit};
-ghost use Rattle.std.proofs.lemmas.Map.Invariant.{sorted-from-test};
-ghost use Rattle.keys.specs.Kinds.{place_order, place_total};
+ghost use Rattle.std.proofs.lemmas.Map.Keys.{IsDistinct-from_sorted};
+ghost use Rattle.keys.specs.Kinds.{place_order};
 ghost use Rattle.index.specs.Sets.{pair_order};
-ghost use Rattle.ordered.specs.RowsLemmas.{distinct_from_sorted};
-ghost use Rattle.std.proofs.Common.{rules, arith};
+ghost use Rattle.std.proofs.Common.{subst};
 
 use crate::places::PlacesInOrder;
 use crate::row::Row;
@@ -30,9 +29,9 @@ impl Index for PlacesInOrder {
 
     ghost limit = { place_limit };
 
-    ghost distinct = { λ s. distinct_from_sorted place_order place_total (place_pairs s) (sorted-from-test (pair_order place_order) (place_pairs s) s.sorted) };
+    ghost distinct = { λ s. IsDistinct-from_sorted (pair_order place_order) (place_pairs s) s.sorted };
 
-    ghost within = { first_of (Prim.search rules, Prim.grind (arith, Self.row.coded.inj)) };
+    ghost within = { λ s. subst (λ n. n ≤ s.row.limit) s.row.pairs.ok.0 s.row.few };
 
     fn capacity(&self) -> usize {
         self.row.limit

@@ -1,8 +1,7 @@
 // The search among the pairs of a row.
 ghost use Rattle.std.specs.Prelude.{◌≡◌};
-ghost use Rattle.std.specs.BTreeMap.Search.{IsKeySearchResult};
 ghost use Rattle.index.specs.Sets.{pair_order, answers};
-ghost use Rattle.ordered.specs.Rows.{items, InOrder, reached, Bound, First};
+ghost use Rattle.ordered.specs.Rows.{items, InOrder, reached, Bound, First, IsKeySearchResult};
 
 use crate::row::Row;
 use crate::start::Start;

@@ -6,7 +6,7 @@ use Rattle.seeing.specs.declared.End.{End}
 use Rattle.seeing.specs.declared.End.TheVariants as end
 use Rattle.seeing.specs.Seeing.{as_end}
 use Rattle.serial.specs.Lists.{In, change}
-use Rattle.serial.specs.Machine.{Game, Transaction, State, Stage, active, committed, pending, touched, given, retag, moved}
+use Rattle.serial.specs.Machine.{Game, Transaction, State, Stage, committed, pending, touched, given, retag, moved}
 use Rattle.serial.proofs.Lists.{In_change}
 use Rattle.serial.proofs.Orders.{In_changed}
 use Rattle.rules.proofs.Times.{come, either, Ver, ending, time, shown, last, latest, upto, Here, BegunBy}

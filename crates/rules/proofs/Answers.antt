@@ -12,7 +12,7 @@ use Rattle.rules.specs.Book.{Book, Exchange, is_done, value_or_absent, by_value,
 use Rattle.rules.specs.Runs.{History, life, Position}
 use Rattle.rules.specs.Law.{stamp_of, end_stamp, book_of, ToldInTurn, OneMoment, serial_order}
 use Rattle.serial.specs.Lists.{In, Each, keep, change}
-use Rattle.serial.specs.Machine.{Game, Transaction, State, committed, pending, play, view, Told, stays, apply, below, settled}
+use Rattle.serial.specs.Machine.{Game, Transaction, State, pending, play, view, Told, stays, apply, below, settled}
 use Rattle.serial.proofs.Lists.{All_at, keep_keep}
 use Rattle.serial.proofs.Steps.{serial_law}
 use Rattle.serial.proofs.Orders.{In_kept}

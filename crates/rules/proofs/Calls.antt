@@ -17,12 +17,11 @@ use Rattle.rules.specs.Worlds.{World, with_store}
 use Rattle.rules.specs.Slots.{fresh, seat, with_phase}
 use Rattle.rules.specs.Slots as slots
 use Rattle.rules.specs.Checks.{Checked}
-use Rattle.rules.specs.BookRules.{aborted}
 use Rattle.rules.specs.TransactionRules.{begin_rule, prepare_rule, tally_rule}
 use Rattle.rules.specs.Runs as runs
 use Rattle.rules.specs.Runs.{life, lived, told, Position}
 use Rattle.rules.specs.Law.{is_doomed}
-use Rattle.serial.specs.Lists.{In, keep, change}
+use Rattle.serial.specs.Lists.{In, keep}
 use Rattle.serial.specs.Machine.{Game, Transaction, State, Stage, active, preparing, validated, committed, pending, newborn, prepared, begin, prepare, Reached, next}
 use Rattle.serial.proofs.Lists.{All_at}
 use Rattle.serial.proofs.Steps.{sound}
@@ -37,7 +36,6 @@ use Rattle.rules.proofs.Upkeep.{shelf_begin}
 use Rattle.rules.proofs.Prepare.{shelf_prepare}
 use Rattle.rules.proofs.Rolls.{roll_begin, roll_prepare}
 use Rattle.rules.proofs.Guards.{guards_begin, guards_prepare}
-use Rattle.rules.proofs.Tales.{done}
 use Rattle.rules.proofs.Tales2.{tale_deed, serial_quiet, committed_in}
 
 -- the sitter's phase says where the machine has it

@@ -7,7 +7,7 @@ use Rattle.seeing.specs.declared.End.{End}
 use Rattle.seeing.specs.declared.End.TheVariants as end
 use Rattle.seeing.specs.Seeing.{as_end}
 use Rattle.serial.specs.Lists.{In, All, Each, keep}
-use Rattle.serial.specs.Machine.{Game, Transaction, State, active, committed, pending, touched, covered, Spared, Reached}
+use Rattle.serial.specs.Machine.{Game, Transaction, State, committed, pending, touched, covered, Spared, Reached}
 use Rattle.serial.proofs.Lists.{All_at, Each_to, Each_both, In_keep}
 use Rattle.serial.proofs.Waits.{leads_alive}
 use Rattle.serial.proofs.Fits.{pending_unless}

@@ -17,7 +17,7 @@ use Rattle.rules.specs.TableRules.{not_of, without_note}
 use Rattle.rules.specs.Checks.{still_allowed}
 use Rattle.rules.specs.Runs.{Position, life}
 use Rattle.serial.specs.Lists.{In, All}
-use Rattle.serial.specs.Machine.{Transaction, State, active, preparing, pending, Pending}
+use Rattle.serial.specs.Machine.{Transaction, State, pending, Pending}
 use Rattle.serial.proofs.Lists.{All_at}
 use Rattle.serial.proofs.Kill.{Any_in, waiting_line}
 use Rattle.serial.proofs.Steps.{sound, Waiting}

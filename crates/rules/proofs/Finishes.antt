@@ -16,7 +16,6 @@ use Rattle.rules.specs.Runs.{Position}
 use Rattle.serial.specs.Lists.{In}
 use Rattle.serial.specs.Machine.{Transaction, State, Stage, active, preparing, validated, committed}
 use Rattle.serial.proofs.Lists.{All_at}
-use Rattle.serial.proofs.Steps.{sound}
 use Rattle.rules.proofs.Game.{game}
 use Rattle.rules.proofs.Times.{Here, come, time, shown, BegunBy}
 use Rattle.rules.proofs.Relation.{stored, Begins, Ends, Suits, Inv, Good, phase_of}

@@ -8,7 +8,7 @@ use Rattle.seeing.specs.declared.End.TheVariants as end
 use Rattle.seeing.specs.declared.Transaction.{Transaction as Sitter}
 use Rattle.seeing.specs.Slots.{Slots, find, seen_phase}
 use Rattle.seeing.specs.Seeing.{as_end}
-use Rattle.seeing.specs.Changing.{names, too_new, ends_at, not_writable}
+use Rattle.seeing.specs.Changing.{too_new, ends_at, not_writable}
 use Rattle.seeing.specs.Phases.{busy_after, is_aborted}
 use Rattle.serial.specs.Lists.{In, All}
 use Rattle.serial.specs.Machine.{Game, Transaction, State, Stage, active, preparing, validated, committed, pending, view, below, touched, In-turn, Reached}

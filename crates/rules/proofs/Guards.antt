@@ -10,7 +10,7 @@ use Rattle.keys.specs.Laws.{TotalOrder}
 use Rattle.rules.specs.Tables.{entry}
 use Rattle.seeing.specs.Seeing.{as_end}
 use Rattle.serial.specs.Lists.{In, All, keep, change}
-use Rattle.serial.specs.Machine.{Transaction, State, Stage, active, preparing, committed, touched, covered, retag, prepared, newborn, Spared, Reached}
+use Rattle.serial.specs.Machine.{Transaction, State, Stage, preparing, committed, touched, covered, retag, prepared, newborn, Spared, Reached}
 use Rattle.serial.proofs.Lists.{All_at}
 use Rattle.serial.proofs.Steps.{sound}
 use Rattle.serial.proofs.Orders.{In_kept, In_changed}

@@ -18,7 +18,7 @@ use Rattle.rules.specs.Runs as runs
 use Rattle.rules.specs.Runs.{life, Position}
 use Rattle.rules.specs.Law.{is_doomed}
 use Rattle.serial.specs.Lists.{In, All, keep, change}
-use Rattle.serial.specs.Machine.{Game, Transaction, State, active, committed, pending, kill, next, Spared}
+use Rattle.serial.specs.Machine.{Game, Transaction, State, committed, pending, kill, next, Spared}
 use Rattle.serial.proofs.Lists.{All_at, In_keep}
 use Rattle.serial.proofs.Orders.{In_kept}
 use Rattle.rules.proofs.Game.{game}

@@ -18,7 +18,7 @@ use Rattle.rules.specs.Runs as runs
 use Rattle.rules.specs.Runs.{life, lived, Position}
 use Rattle.rules.specs.Law.{is_doomed}
 use Rattle.serial.specs.Lists.{In, change}
-use Rattle.serial.specs.Machine.{Transaction, State, active, committed, pending, moved, May-move, move, Reached, next}
+use Rattle.serial.specs.Machine.{Transaction, State, active, pending, moved, May-move, move, Reached, next}
 use Rattle.serial.proofs.Kill.{All_in}
 use Rattle.serial.proofs.Orders.{In_changed}
 use Rattle.rules.proofs.Game.{game}

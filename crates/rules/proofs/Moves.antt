@@ -13,7 +13,7 @@ use Rattle.seeing.specs.Seeing.{as_end, preparing_other, begun, ended, waits_for
 use Rattle.rules.specs.Book.{Exchange}
 use Rattle.rules.specs.Runs.{Position}
 use Rattle.serial.specs.Lists.{In, All}
-use Rattle.serial.specs.Machine.{Game, Transaction, State, active, pending, Pending, Leads, direct, through, Minds, May-move, touched, covered, view, below, play, given, moved, Reached}
+use Rattle.serial.specs.Machine.{Game, Transaction, State, pending, Pending, Leads, direct, through, Minds, May-move, touched, covered, view, below, play, given, moved, Reached}
 use Rattle.serial.proofs.Lists.{All_at, In_right}
 use Rattle.serial.proofs.Waits.{leads_more}
 use Rattle.serial.proofs.Kill.{All_in}

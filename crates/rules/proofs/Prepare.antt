@@ -12,7 +12,6 @@ use Rattle.serial.specs.Machine.{Game, Transaction, State, active, pending, touc
 use Rattle.serial.proofs.Lists.{All_at, All_to}
 use Rattle.serial.proofs.Steps.{sound}
 use Rattle.serial.proofs.Names.{Apart, distinct}
-use Rattle.serial.proofs.Kill.{unique}
 use Rattle.serial.proofs.Orders.{ordered, In_kept}
 use Rattle.rules.proofs.Times.{come, stamped, Ver, ending, time, shown, last, latest, upto, Here, Names, BegunBy}
 use Rattle.rules.proofs.Relation.{Begins, Ends, Late, At, Shows, Ended, Marked, Shelf}

@@ -8,7 +8,6 @@ use Rattle.rules.specs.declared.BookCall.TheVariants as book
 use Rattle.rules.specs.declared.Call.TheVariants as call
 use Rattle.seeing.specs.declared.Begin.TheVariants as begin
 use Rattle.seeing.specs.declared.Transaction.{Transaction as Sitter}
-use Rattle.seeing.specs.declared.Version.{Version}
 use Rattle.rules.specs.declared.Noted.{Noted}
 use Rattle.rules.specs.declared.Noted.TheVariants as noted
 use Rattle.rules.specs.Keys.{same}
@@ -25,7 +24,7 @@ use Rattle.rules.specs.BookRules.{read_rule, conclude, note_of, value_of}
 use Rattle.rules.specs.Book.{value_or_absent, is_done}
 use Rattle.rules.specs.Runs.{Position, number_in}
 use Rattle.serial.specs.Lists.{In}
-use Rattle.serial.specs.Machine.{Transaction, State, active, touched, play, view, below}
+use Rattle.serial.specs.Machine.{Transaction, State, touched, play, view, below}
 use Rattle.rules.proofs.Game.{game, same_true, looks, RightCall}
 use Rattle.rules.proofs.Times.{shown}
 use Rattle.rules.proofs.Relation.{stored, Guarded, Inv, Good}

@@ -9,7 +9,6 @@ use Rattle.seeing.specs.Changing.{names}
 use Rattle.serial.specs.Lists.{In, All}
 use Rattle.serial.specs.Machine.{Game, Transaction, State, play, view, below, touched, stays, Reached}
 use Rattle.serial.proofs.Lists.{All_at}
-use Rattle.serial.proofs.Steps.{sound}
 use Rattle.serial.proofs.Views.{play_untouched}
 use Rattle.serial.proofs.Orders.{ordered}
 use Rattle.rules.proofs.Times.{come, Ver, ending, time, shown, last, latest, upto}

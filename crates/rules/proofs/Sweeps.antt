@@ -21,7 +21,7 @@ use Rattle.rules.specs.TableRules.{is_past, to_sweep, swept_entry, sweeps_pair, 
 use Rattle.rules.specs.Checks.{still_allowed}
 use Rattle.rules.specs.Runs.{Position}
 use Rattle.serial.specs.Lists.{In}
-use Rattle.serial.specs.Machine.{Game, Transaction, State, active, preparing, committed, pending, touched}
+use Rattle.serial.specs.Machine.{Transaction, State, committed, pending, touched}
 use Rattle.serial.proofs.Lists.{All_at}
 use Rattle.serial.proofs.Names.{Apart, distinct}
 use Rattle.serial.proofs.Orders.{touched_covered}

@@ -8,7 +8,7 @@ use Rattle.seeing.specs.Slots.{Slots, find}
 use Rattle.rules.specs.Runs.{History, Event, life, lived}
 use Rattle.rules.specs.Law.{stamp_of, sorted_names, commits_in, commit_in, serial_order, end_stamp, is_doomed}
 use Rattle.serial.specs.Lists.{In}
-use Rattle.serial.specs.Machine.{Transaction, State, committed, pending, prepared}
+use Rattle.serial.specs.Machine.{Transaction, State, committed, pending}
 use Rattle.rules.proofs.Game.{game}
 use Rattle.rules.proofs.Times.{Here}
 use Rattle.rules.proofs.Relation.{forward, life_of, Tale}

@@ -8,9 +8,8 @@ use Rattle.seeing.specs.declared.End.TheVariants as end
 use Rattle.seeing.specs.Changing.{settle_begin, settle_end}
 use Rattle.seeing.specs.Seeing.{as_end}
 use Rattle.serial.specs.Lists.{In}
-use Rattle.serial.specs.Machine.{Game, Transaction, State, active, committed, pending, touched, newborn, Reached}
+use Rattle.serial.specs.Machine.{Game, Transaction, State, committed, pending, touched, newborn, Reached}
 use Rattle.serial.proofs.Lists.{All_at}
-use Rattle.serial.proofs.Steps.{sound}
 use Rattle.serial.proofs.Names.{Apart, distinct}
 use Rattle.rules.proofs.Times.{Ver, ending, time, shown, last, latest, upto, Here, Names}
 use Rattle.rules.proofs.Relation.{Begins, Ends, Late, At, Shows, Own, Ended, Marked, Shelf}

@@ -18,7 +18,7 @@ use Rattle.seeing.specs.Changing.{names, own_work}
 use Rattle.rules.specs.Validating.{Test, passes, tests_of, notes_of, tests_for}
 use Rattle.rules.specs.Runs.{Position}
 use Rattle.serial.specs.Lists.{In, All, Each, change}
-use Rattle.serial.specs.Machine.{Game, Transaction, State, active, preparing, pending, Pending, Leads, direct, through, touched, covered, below, view, Told, May-pass, In-turn, Step, validate, passed}
+use Rattle.serial.specs.Machine.{Game, Transaction, State, preparing, pending, Pending, Leads, direct, through, touched, covered, below, view, Told, May-pass, In-turn, Step, validate, passed}
 use Rattle.serial.proofs.Lists.{All_at, In_keep, In_right}
 use Rattle.serial.proofs.Views.{told_same, play_untouched}
 use Rattle.serial.proofs.Waits.{leads_more}

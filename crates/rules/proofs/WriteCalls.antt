@@ -13,7 +13,7 @@ use Rattle.rules.specs.declared.Call.TheVariants as call
 use Rattle.seeing.specs.declared.Transaction.{Transaction as Sitter}
 use Rattle.rules.specs.Keys.{same, within}
 use Rattle.keys.specs.Laws.{TotalOrder}
-use Rattle.rules.specs.Tables.{entry, is_free, free, filled}
+use Rattle.rules.specs.Tables.{entry, is_free, filled}
 use Rattle.rules.specs.Lists.{any}
 use Rattle.rules.specs.Index.{Index, put, covering}
 use Rattle.index.specs.Listed.{with_pair}

@@ -7,7 +7,7 @@ use Rattle.seeing.specs.declared.End.{End}
 use Rattle.seeing.specs.declared.End.TheVariants as till
 use Rattle.seeing.specs.Seeing.{as_end}
 use Rattle.serial.specs.Lists.{In, change}
-use Rattle.serial.specs.Machine.{Game, Transaction, State, active, touched, given, moved, Reached}
+use Rattle.serial.specs.Machine.{Game, Transaction, State, touched, given, moved, Reached}
 use Rattle.serial.proofs.Lists.{All_at}
 use Rattle.serial.proofs.Names.{Apart, distinct}
 use Rattle.serial.proofs.Kill.{unique}

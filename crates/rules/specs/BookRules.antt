@@ -1,5 +1,5 @@
 -- The rules of read, scan, insert, update and delete: what each answers, and all that it leaves. Assumes nothing.
-use Rattle.std.specs.Prelude.{ℕ, Bool, true, false, cond, not, ◌&&◌, List, [], ◌∷◌, ◌++◌, length, drop, set, Some, None, Ok, Err, Option, nat_lt}
+use Rattle.std.specs.Prelude.{ℕ, Bool, false, cond, not, ◌&&◌, List, [], ◌∷◌, ◌++◌, length, drop, set, Some, None, Ok, Err, Option, nat_lt}
 use Rattle.std.specs.declared.cmp.Ordering.{Ordering}
 use Rattle.seeing.specs.declared.End.TheVariants as end
 use Rattle.seeing.specs.declared.Transaction.{Transaction}

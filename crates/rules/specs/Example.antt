@@ -3,7 +3,7 @@ use Rattle.std.specs.Prelude.{◌≡◌, ℕ, List, [], ◌∷◌, ◌++◌}
 use Rattle.seeing.specs.declared.Level.TheVariants.{Serializable, Snapshot}
 use Rattle.keys.specs.Laws.{TotalOrder}
 use Rattle.rules.specs.declared.BookCall.TheVariants.{Read, Scan, Insert, Update, Delete}
-use Rattle.rules.specs.declared.Call.TheVariants.{Begin, Book, Prepare, Validate, Commit, Abort, Finish, Sweep, Tally}
+use Rattle.rules.specs.declared.Call.TheVariants.{Begin, Book, Prepare, Validate, Commit, Abort, Finish, Tally}
 use Rattle.rules.specs.declared.Answer.TheVariants.{Done, Absent, Value, Stamp, Number, Tallied}
 use Rattle.rules.specs.declared.Refusal.TheVariants as refusal
 use Rattle.rules.specs.Runs.{Position, Run}

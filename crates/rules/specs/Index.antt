@@ -1,7 +1,7 @@
 -- What the rules take of an index: its pairs, listed by key and then place, and its capacity. Assumes nothing.
 use Rattle.std.specs.Prelude.{ℕ, Bool, cond, not, ◌&&◌, List, [], length, nat_le}
 use Rattle.std.specs.declared.cmp.Ordering.{Ordering}
-use Rattle.index.specs.Sets.{tie, holds}
+use Rattle.index.specs.Sets.{holds}
 use Rattle.index.specs.Listed.{keep, with_pair, listed}
 use Rattle.rules.specs.Keys.{within}
 

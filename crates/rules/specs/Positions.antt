@@ -1,5 +1,5 @@
 -- Played positions: runs with the answers that the rules give. Assumes nothing.
-use Rattle.std.specs.Prelude.{◌≡◌, ℕ, List, [], ◌∷◌, ◌++◌, map, replicate, Some, None, Ok, Err, Option, refl}
+use Rattle.std.specs.Prelude.{◌≡◌, ℕ, List, [], ◌∷◌, ◌++◌, map, replicate, Some, None, Ok, Err, Option}
 use Rattle.std.specs.declared.cmp.Ordering.TheVariants.{Less, Equal, Greater}
 use Rattle.std.specs.declared.cmp.Ordering.{Ordering}
 use Prim.Native.Nat.{compare, Ordering as Native}
@@ -7,16 +7,14 @@ use Rattle.seeing.specs.declared.Level.{Level}
 use Rattle.seeing.specs.declared.Level.TheVariants.{Serializable, Snapshot}
 use Rattle.seeing.specs.declared.End.{End}
 use Rattle.seeing.specs.declared.End.TheVariants as end
-use Rattle.rules.specs.declared.Row.{Row}
-use Rattle.rules.specs.declared.BookCall.TheVariants.{Read, Scan, Insert, Update, Delete}
+use Rattle.rules.specs.declared.BookCall.TheVariants.{Read, Scan, Insert, Update}
 use Rattle.rules.specs.declared.Call.{Call}
-use Rattle.rules.specs.declared.Call.TheVariants.{Open, Begin, Book, Prepare, Validate, Commit, Abort, Finish, Sweep, Tally}
+use Rattle.rules.specs.declared.Call.TheVariants.{Open, Begin, Book, Prepare, Validate, Commit, Abort, Finish}
 use Rattle.rules.specs.declared.Answer.{Answer}
-use Rattle.rules.specs.declared.Answer.TheVariants.{Done, Present, Absent, Value, Stamp, Number, Tallied}
+use Rattle.rules.specs.declared.Answer.TheVariants.{Done, Absent, Value, Stamp, Number}
 use Rattle.rules.specs.declared.Refusal.{Refusal}
 use Rattle.rules.specs.declared.Refusal.TheVariants as refusal
 use Rattle.std.specs.Option.{option_map, unwrap_or}
-use Rattle.rules.specs.Lists.{concat_map}
 use Rattle.rules.specs.Tables.{entry, free_from, emptied}
 use Rattle.rules.specs.Worlds.{World, Choice}
 use Rattle.rules.specs.Checks.{Checked}

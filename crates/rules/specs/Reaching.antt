@@ -1,5 +1,5 @@
 -- The versions that a call reaches, and what it makes of them. Assumes nothing.
-use Rattle.std.specs.Prelude.{ℕ, Bool, true, false, not, ◌&&◌, List, [], ◌∷◌, Ok, Err, Option}
+use Rattle.std.specs.Prelude.{ℕ, Bool, not, ◌&&◌, List, [], ◌∷◌, Ok, Option}
 use Rattle.std.specs.declared.cmp.Ordering.{Ordering}
 use Rattle.seeing.specs.declared.Version.{Version}
 use Rattle.seeing.specs.Slots.{Slots}

@@ -1,8 +1,8 @@
 -- Runs: an accepted open and any calls after it, with what each transaction was told and became. Assumes nothing.
-use Rattle.std.specs.Prelude.{◌≡◌, ℕ, Bool, true, false, cond, not, ◌&&◌, ◌||◌, T, List, [], ◌∷◌, ◌++◌, take, Some, None, Ok, Err, Option, ◌==◌}
+use Rattle.std.specs.Prelude.{ℕ, Bool, true, false, cond, ◌||◌, T, List, [], ◌∷◌, ◌++◌, take, Some, None, Ok, Err, Option, ◌==◌}
 use Rattle.std.specs.declared.cmp.Ordering.{Ordering}
 use Rattle.seeing.specs.declared.Level.{Level}
-use Rattle.seeing.specs.declared.Level.TheVariants.{Serializable, Snapshot}
+use Rattle.seeing.specs.declared.Level.TheVariants.{Snapshot}
 use Rattle.rules.specs.declared.Row.{Row}
 use Rattle.rules.specs.declared.Call.{Call}
 use Rattle.rules.specs.declared.Call.TheVariants as call

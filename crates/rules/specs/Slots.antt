@@ -1,5 +1,5 @@
 -- Single changes of the transactions in the slots, and of what the store counts. Assumes nothing.
-use Rattle.std.specs.Prelude.{ℕ, ◌+◌, ◌-◌, ◌^◌, min, Bool, true, false, cond, List, [], ◌∷◌, map, set, replicate, Some, None, Option, ◌==◌, slice_set}
+use Rattle.std.specs.Prelude.{ℕ, ◌+◌, ◌-◌, ◌^◌, min, Bool, true, false, cond, List, [], ◌∷◌, map, replicate, Some, None, Option, ◌==◌, slice_set}
 use Rattle.std.specs.Option.{option_map}
 use Rattle.seeing.specs.declared.Level.{Level}
 use Rattle.seeing.specs.declared.Phase.{Phase}

@@ -1,5 +1,5 @@
 -- The rules of open, finish and sweep, which go through whole tables. Assumes nothing.
-use Rattle.std.specs.Prelude.{ℕ, Bool, true, false, cond, not, ◌&&◌, ltb, List, [], ◌∷◌, map, length, replicate, Some, None, Ok, Err, Option, ◌==◌, nat_lt}
+use Rattle.std.specs.Prelude.{ℕ, Bool, false, cond, not, ◌&&◌, ltb, List, map, length, replicate, Some, None, Ok, Option, ◌==◌, nat_lt}
 use Rattle.std.specs.declared.cmp.Ordering.{Ordering}
 use Rattle.std.specs.Option.{option_map}
 use Rattle.seeing.specs.declared.End.{End}
@@ -17,7 +17,7 @@ use Rattle.rules.specs.declared.Refusal.TheVariants as refusal
 use Rattle.rules.specs.Lists.{all, count, used}
 use Rattle.rules.specs.Tables.{entry, emptied}
 use Rattle.rules.specs.Keys.{same}
-use Rattle.rules.specs.Index.{Index, clear}
+use Rattle.rules.specs.Index.{clear}
 use Rattle.index.specs.Listed.{keep}
 use Rattle.rules.specs.Worlds.{World, with_slots}
 use Rattle.rules.specs.Checks.{Outcome, ◌>>=◌, ◌>>◌, refuse_if, largest, allowed, in_order, named_in}

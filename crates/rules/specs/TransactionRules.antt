@@ -1,5 +1,5 @@
 -- The rules of begin, prepare, commit, abort and tally. Assumes nothing.
-use Rattle.std.specs.Prelude.{ℕ, ◌+◌, Bool, true, false, not, List, is_some, Ok, Err, nat_le, nat_lt}
+use Rattle.std.specs.Prelude.{ℕ, ◌+◌, not, is_some, Ok, nat_le, nat_lt}
 use Rattle.seeing.specs.declared.Level.{Level}
 use Rattle.seeing.specs.declared.Phase.TheVariants.{Preparing, Committed}
 use Rattle.seeing.specs.Phases.{is_active, is_over, if_validated}

@@ -1,5 +1,5 @@
 -- The rule of validate: notes in the order made, versions by key and then place. Assumes nothing.
-use Rattle.std.specs.Prelude.{ℕ, Bool, true, false, cond, not, ◌&&◌, ◌||◌, List, [], ◌∷◌, map, is_some, Some, None, Ok, Err, Option, ◌==◌, nat_le}
+use Rattle.std.specs.Prelude.{ℕ, Bool, true, false, cond, ◌||◌, List, [], ◌∷◌, map, is_some, Some, None, Ok, Err, Option, ◌==◌, nat_le}
 use Rattle.std.specs.declared.cmp.Ordering.{Ordering}
 use Rattle.std.specs.Bool.{beq}
 use Rattle.seeing.specs.declared.Phase.TheVariants.{Validated}
@@ -19,7 +19,7 @@ use Rattle.rules.specs.Lists.{concat_map}
 use Rattle.rules.specs.Tables.{items}
 use Rattle.rules.specs.Index.{Index, covering}
 use Rattle.rules.specs.Worlds.{World, with_store, with_slots}
-use Rattle.rules.specs.Checks.{Checked, ◌>>=◌, ◌>>◌, some_or, Outcome, sound_in}
+use Rattle.rules.specs.Checks.{Checked, ◌>>=◌, some_or, Outcome, sound_in}
 use Rattle.rules.specs.Slots.{change, mark, with_phase, with_waits}
 use Rattle.rules.specs.Reaching.{reached}
 use Rattle.rules.specs.BookRules.{aborted}

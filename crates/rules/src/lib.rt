@@ -1,4 +1,6 @@
 // The store's tables, calls, answers and refusals. What the calls do is defined in specs/ over these types.
+#![tactic(auto)]
+
 ghost use Rattle.std.specs.Prelude.{◌≡◌, Some, None};
 ghost use Rattle.std.specs.Option.{option_to_list};
 ghost use Rattle.rules.specs.Said.{number, carried};

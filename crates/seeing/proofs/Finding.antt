@@ -1,7 +1,6 @@
 -- `find` is what `found` gives without the slot. Assumes nothing.
-use Rattle.std.proofs.Common.{◌≡◌, ℕ, ◌+◌, Bool, true, false, cond, eqb, List, [], ◌∷◌, Some, None, Option, refl}
+use Rattle.std.proofs.Common.{◌≡◌, ℕ, ◌+◌, Bool, true, false, cond, eqb, [], ◌∷◌, Some, None, refl}
 use Rattle.std.specs.Option.{option_map}
-use Rattle.seeing.specs.declared.Transaction.{Transaction}
 use Rattle.seeing.specs.Slots.{Slots, found, find}
 
 pub find_found : (ts : Slots) (n i : ℕ) → find ts n ≡ option_map (λ x. x.1) (found ts n i)

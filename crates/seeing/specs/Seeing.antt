@@ -1,5 +1,5 @@
 -- Who sees which version at a time, and whom it then waits on. Assumes nothing.
-use Rattle.std.specs.Prelude.{ℕ, Bool, true, false, cond, not, ◌&&◌, ◌||◌, Some, None, Option, ◌==◌, nat_le}
+use Rattle.std.specs.Prelude.{ℕ, Bool, false, cond, not, ◌&&◌, ◌||◌, Some, None, Option, ◌==◌, nat_le}
 use Rattle.seeing.specs.declared.Begin.{Begin}
 use Rattle.seeing.specs.declared.Begin.TheVariants as begin
 use Rattle.seeing.specs.declared.End.{End}

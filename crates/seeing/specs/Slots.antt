@@ -1,5 +1,5 @@
 -- The slots of a store, each with a transaction or none. Assumes nothing.
-use Rattle.std.specs.Prelude.{ℕ, ◌+◌, Bool, true, false, cond, List, [], ◌∷◌, Some, None, Option, ◌==◌}
+use Rattle.std.specs.Prelude.{ℕ, ◌+◌, cond, List, [], ◌∷◌, Some, None, Option, ◌==◌}
 use Rattle.seeing.specs.declared.Phase.{Phase}
 use Rattle.seeing.specs.declared.Phase.TheVariants.{Aborted}
 use Rattle.seeing.specs.declared.Transaction.{Transaction}

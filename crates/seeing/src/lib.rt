@@ -1,5 +1,6 @@
 // Versions and transactions: who sees which version and whom it then waits on, which versions tell against a change,
 // and what a version becomes when a transaction that it names is finished.
+#![tactic(auto)]
 
 mod changes;
 mod marks;

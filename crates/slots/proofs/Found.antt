@@ -1,5 +1,5 @@
 -- A change of the one named is a write to its slot. Assumes nothing.
-use Rattle.std.proofs.Common.{◌≡◌, ℕ, zero, suc, ◌+◌, Bool, true, false, cond, eqb, List, [], ◌∷◌, set, Some, None, Option, sym, refl, ap, ◌∙◌, arith}
+use Rattle.std.proofs.Common.{◌≡◌, ℕ, suc, ◌+◌, Bool, true, false, cond, eqb, [], ◌∷◌, set, Some, None, Option, refl, ap, ◌∙◌, arith}
 use Rattle.seeing.specs.declared.Transaction.{Transaction}
 use Rattle.seeing.specs.Slots.{Slots, found}
 use Rattle.rules.specs.Slots.{change, unseat}

@@ -1,4 +1,5 @@
 // The work on the slots of a store: marks by slot, an abort and what it drags along, and the seats.
+#![tactic(auto)]
 
 mod aborts;
 mod marks;

@@ -8,7 +8,7 @@ use Rattle.rules.specs.declared.Refusal.TheVariants as refusal
 use Rattle.rules.specs.Tables.{any_free, is_free, filled}
 use Rattle.rules.specs.Slots.{one_more}
 use Rattle.seeing.specs.Phases.{is_serializable}
-use Rattle.rules.specs.Checks.{Checked, ◌>>=◌, ◌>>◌, refuse_if}
+use Rattle.rules.specs.Checks.{Checked, ◌>>◌, refuse_if}
 use Rattle.rules.specs.BookRules.{noting}
 use Rattle.tables.specs.Places.{pick}
 use Rattle.tables.proofs.Steps.{pass, stop}

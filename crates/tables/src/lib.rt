@@ -1,4 +1,5 @@
 // The work on the tables that a caller lends: places, notes, and changes of all entries.
+#![tactic(auto)]
 
 mod changes;
 mod lengths;

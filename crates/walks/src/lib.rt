@@ -1,4 +1,6 @@
 // Walks over the versions that an index leads to, and new versions in the table and the index.
+#![tactic(auto)]
+
 use index::IndexFault;
 use seeing::Version;
 

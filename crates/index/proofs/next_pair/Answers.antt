@@ -1,4 +1,4 @@
-use Rattle.std.proofs.Common.{◌≡◌, sym, ◌∙◌}
+use Rattle.std.proofs.Common.{sym}
 use Rattle.index.proofs.Nexts.{is_greater, is_equal, not_beyond, past_upper, at_key, at_upper, no_key, key_past, key_next}
 use Rattle.index.proofs.next_pair.Goals as goal
 

@@ -1,4 +1,4 @@
-use Rattle.std.proofs.Common.{sym, ◌∙◌}
+use Rattle.std.proofs.Common.{◌∙◌}
 use Rattle.tables.proofs.Steps.{go_on, give_up, exit}
 use Rattle.data_calls.proofs.Shapes.{entered}
 use Rattle.data_calls.proofs.answers.conclude.Goals as goal

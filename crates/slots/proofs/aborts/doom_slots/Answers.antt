@@ -1,4 +1,4 @@
-use Rattle.std.proofs.Common.{◌≡◌, ℕ, Bool, false, ◌||◌, get_or, None, sym}
+use Rattle.std.proofs.Common.{ℕ, false, get_or, None}
 use Rattle.rules.specs.Aborting.{after_abort, doom_marked}
 use Rattle.slots.proofs.Filled.{fill_step, fill_end}
 use Rattle.slots.proofs.aborts.doom_slots.Goals as goal

@@ -1,4 +1,4 @@
-use Rattle.std.proofs.Common.{◌≡◌, false, ◌&&◌, get_or, sym, arith}
+use Rattle.std.proofs.Common.{false, ◌&&◌, get_or, sym}
 use Rattle.rules.specs.Aborting.{meets}
 use Rattle.slots.proofs.Filled.{none_yet, one_here, none_at_all}
 use Rattle.slots.proofs.aborts.have_common.Goals as goal

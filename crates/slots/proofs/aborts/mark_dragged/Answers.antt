@@ -1,4 +1,4 @@
-use Rattle.std.proofs.Common.{◌≡◌, ap, ◌∙◌}
+use Rattle.std.proofs.Common.{ap, ◌∙◌}
 use Rattle.rules.specs.Aborting.{dragged, spread_for}
 use Rattle.slots.proofs.Filled.{spread_step, spread_end}
 use Rattle.slots.proofs.aborts.mark_dragged.Goals as goal

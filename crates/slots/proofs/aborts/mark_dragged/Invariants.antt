@@ -1,5 +1,5 @@
 use Rattle.std.proofs.Common.{◌≡◌}
-use Rattle.rules.specs.Aborting.{spread_for, named_marks}
+use Rattle.rules.specs.Aborting.{spread_for}
 use Rattle.slots.proofs.aborts.mark_dragged.Given as goal
 
 abbrev pub invariant-loop-i : goal.invariant-loop-i

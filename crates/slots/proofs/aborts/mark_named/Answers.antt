@@ -1,4 +1,4 @@
-use Rattle.std.proofs.Common.{◌≡◌, ℕ, Bool, false, ◌||◌, get_or, None, sym}
+use Rattle.std.proofs.Common.{ℕ, false, get_or, None}
 use Rattle.rules.specs.Aborting.{is_named, named_marks}
 use Rattle.slots.proofs.Filled.{fill_step, fill_end}
 use Rattle.slots.proofs.aborts.mark_named.Goals as goal

@@ -1,4 +1,4 @@
-use Rattle.std.proofs.Common.{sym, refl, arith}
+use Rattle.std.proofs.Common.{refl, arith}
 use Rattle.slots.proofs.Seating.{count_more, count_all}
 use Rattle.slots.proofs.marks.count_waits.Goals as goal
 

@@ -1,4 +1,4 @@
-use Rattle.std.proofs.Common.{◌≡◌, ltb, sym, ◌∙◌, arith}
+use Rattle.std.proofs.Common.{ltb, sym, ◌∙◌, arith}
 use Rattle.std.proofs.lemmas.List.{at_drop_all}
 use Rattle.rules.specs.Lists.{all, used}
 use Rattle.slots.proofs.Seating.{after_more}

@@ -1,4 +1,4 @@
-use Rattle.std.proofs.Common.{◌≡◌, ℕ, false, get_or, set, None, sym, ◌∙◌}
+use Rattle.std.proofs.Common.{ℕ, false, get_or, set, None, sym, ◌∙◌}
 use Rattle.std.specs.Option.{option_map}
 use Rattle.rules.specs.Slots.{with_waits}
 use Rattle.slots.proofs.Filled.{fill_end}

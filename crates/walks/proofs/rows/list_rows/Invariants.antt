@@ -1,4 +1,4 @@
-use Rattle.std.proofs.Common.{◌≡◌, ◌≤◌, false, length}
+use Rattle.std.proofs.Common.{◌≡◌, false, length}
 use Rattle.index.specs.Listed.{rest}
 use Rattle.walks.specs.Rows.{listing}
 use Rattle.walks.proofs.rows.list_rows.Given as goal

@@ -67,7 +67,7 @@ returns-in-Sweep g c =
     (desk c.args.self.now c.args.versions.now c.args.notes.now (meaning g.I.Key.Key.order (g.I.Index.pairs c.args.index.now) (g.I.Index.limit c.args.index.now)) c.args.rows.now)
     (desk c.args.self.now c.sweep.new.versions c.args.notes.now (meaning g.I.Key.Key.order (g.I.Index.pairs c.sweep.new.index) (g.I.Index.limit c.sweep.new.index)) c.args.rows.now)
     c.args.call call.Sweep c.sweep.result c.in-Sweep.is
-    (c.sweep.ensures c.args.rows.now) (refl, refl)
+    (c.sweep.ensures.does c.args.rows.now) (refl, refl)
 
 pub returns-in-Tally : goal.returns-in-Tally
 returns-in-Tally g c =
@@ -75,4 +75,4 @@ returns-in-Tally g c =
     (desk c.args.self.now c.args.versions.now c.args.notes.now (meaning g.I.Key.Key.order (g.I.Index.pairs c.args.index.now) (g.I.Index.limit c.args.index.now)) c.args.rows.now)
     (desk c.args.self.now c.args.versions.now c.args.notes.now (meaning g.I.Key.Key.order (g.I.Index.pairs c.args.index.now) (g.I.Index.limit c.args.index.now)) c.args.rows.now)
     c.args.call call.Tally c.tally.result c.in-Tally.is
-    (c.tally.ensures c.args.rows.now) (refl, refl)
+    (c.tally.ensures.does c.args.rows.now) (refl, refl)

@@ -1,7 +1,6 @@
 use Rattle.std.proofs.Common.{◌≡◌, ℕ, [], ◌∷◌, ◌++◌, length, sym, refl, ap, ◌∙◌, subst, arith}
 use Rattle.std.specs.List.{IsDistinct}
 use Rattle.std.proofs.lemmas.List.{length_push}
-use Rattle.std.proofs.lemmas.Map.Invariant.{distinct-from-test}
 use Rattle.index.specs.Sets.{tie, holds}
 use Rattle.chains.specs.Chained.{held}
 use Rattle.chains.proofs.Walks.{wired_of, chained_of}
@@ -27,7 +26,7 @@ returns g c =
     let q : g.row.K.Denot × ℕ = (c.args.key, c.args.place) in
     let miss = c.in_default.ensures in
     let more : held c.append.new.self ≡ xs ++ q ∷ [] = c.append.ensures.pairs in
-    let apart = subst (IsDistinct (tie o)) (sym more) (distinct_push o l xs q (distinct-from-test (tie o) xs c.requires.0) miss) in
+    let apart = subst (IsDistinct (tie o)) (sym more) (distinct_push o l xs q c.requires.0 miss) in
     record {
       says = (miss, omega arith, ap (holds o) more ∙ holds_push o l xs q, ap length more ∙ length_push xs q);
       limit = c.append.ensures.limit;

@@ -1,7 +1,6 @@
 use Rattle.std.proofs.Common.{◌≡◌, ℕ, suc, ◌-◌, ◌<◌, length, get_or, take, set, sym, ap, ◌∙◌, subst, arith}
 use Rattle.std.specs.List.{IsDistinct}
 use Rattle.std.proofs.lemmas.List.{length-set, length-take-le, get_or_read}
-use Rattle.std.proofs.lemmas.Map.Invariant.{distinct-from-test}
 use Rattle.index.specs.Sets.{tie, holds}
 use Rattle.chains.specs.Chained.{held}
 use Rattle.chains.proofs.Walks.{wired_of, chained_of}
@@ -29,7 +28,7 @@ returns-then-at-len g c =
     let short = length-take-le m xs (omega arith) in
     let cut = ap length c.pop_last-last.ensures.pairs in
     let low : i < m = omega (arith, c.if-at-len.true) in
-    let s = distinct-from-test (tie o) xs c.requires.0 in
+    let s = c.requires.0 in
     let is : held c.replace.new.self ≡ set (take m xs) i w = c.replace.ensures.pairs ∙ ap (λ ys. set ys i w) c.pop_last-last.ensures.pairs in
     let apart = subst (IsDistinct (tie o)) (sym is) (distinct_moved o l xs s m long w c.pop_last-last.ensures.pair i q low f.1) in
     let count = ap length is ∙ length-set (take m xs) i w in
@@ -55,7 +54,7 @@ returns-else-at-len g c =
     let cut = ap length c.pop_last-last.ensures.pairs in
     let here : i ≡ m = omega (arith, c.if-at-len.false) in
     let in_row : m < length xs = omega arith in
-    let s = distinct-from-test (tie o) xs c.requires.0 in
+    let s = c.requires.0 in
     let at-m = f.1 ∙ ap (λ n. get_or xs n q) here in
     let same = get_or_read xs m w in_row c.pop_last-last.ensures.pair q ∙ sym at-m in
     let apart = subst (IsDistinct (tie o)) (sym c.pop_last-last.ensures.pairs) (distinct_last o l xs s m long w c.pop_last-last.ensures.pair) in
