@@ -1,5 +1,5 @@
 -- Commit, abort and finish, from check to check. Assumes nothing.
-use Rattle.std.proofs.Common.{◌≡◌, ℕ, ◌+◌, Bool, true, false, not, ltb, List, map, length, set, is_some, Some, None, Ok, Err, sym, refl, ap, ◌∙◌}
+use Rattle.std.proofs.Common.{◌≡◌, ℕ, Bool, true, false, not, ltb, List, map, length, set, is_some, Some, None, Ok, Err, sym, ap, ◌∙◌}
 use Rattle.seeing.specs.declared.Phase.{Phase}
 use Rattle.seeing.specs.declared.Phase.TheVariants.{Committed}
 use Rattle.seeing.specs.declared.Transaction.{Transaction}

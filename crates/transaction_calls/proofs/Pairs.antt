@@ -1,12 +1,12 @@
 -- The pairs of an index, swept place by place. Assumes nothing.
-use Rattle.std.proofs.Common.{◌≡◌, ℕ, ◌+◌, ◌<◌, ◌≤◌, Bool, true, false, cond, not, ◌&&◌, ltb, ◌⊎◌, List, [], ◌∷◌, length, Some, None, Option, Ordering, Less, Equal, Greater, sym, refl, ap, ◌∙◌, subst, inl, inr, ⊎_elim, true≢false, arith}
+use Rattle.std.proofs.Common.{◌≡◌, ℕ, ◌+◌, ◌≤◌, Bool, true, false, cond, not, ◌&&◌, ltb, List, [], ◌∷◌, length, Some, None, Option, Ordering, Less, Equal, Greater, sym, refl, ap, ◌∙◌, ⊎_elim, arith}
 use Rattle.std.specs.Ordering.{is_eq, ordering_then, nat_cmp}
 use Rattle.std.specs.List.{IsDistinct}
 use Rattle.std.proofs.lemmas.Bool.{and_right, cases_eq, ltb-true, ltb-false, lt-ltb, le-ltb}
 use Rattle.keys.specs.Laws.{TotalOrder}
 use Rattle.seeing.specs.declared.Version.{Version}
 use Rattle.seeing.specs.Slots.{Slots}
-use Rattle.index.specs.Sets.{tie, holds, minus}
+use Rattle.index.specs.Sets.{tie, holds}
 use Rattle.index.specs.Answers.{RemoveSays}
 use Rattle.index.specs.Listed.{keep, listed}
 use Rattle.index.proofs.Pairs.{same_tie, tie_itself, false_unless}

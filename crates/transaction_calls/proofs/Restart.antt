@@ -1,6 +1,6 @@
 -- Open and tally, from check to check. Assumes nothing.
 use Rattle.rules.specs.Worlds.{around}
-use Rattle.std.proofs.Common.{◌≡◌, ℕ, Bool, true, false, not, ltb, List, [], length, replicate, Ok, Err, Ordering, sym, refl, ap, ◌∙◌}
+use Rattle.std.proofs.Common.{◌≡◌, ℕ, Bool, true, false, not, ltb, List, [], length, replicate, Ok, Err, Ordering, sym, ap, ◌∙◌}
 use Rattle.seeing.specs.declared.Version.{Version}
 use Rattle.rules.specs.declared.Entry.{Entry}
 use Rattle.rules.specs.declared.Store.{Store}
@@ -9,8 +9,8 @@ use Rattle.rules.specs.declared.Answer.{Answer}
 use Rattle.rules.specs.declared.Answer.TheVariants as answer
 use Rattle.rules.specs.declared.Refusal.TheVariants as refusal
 use Rattle.rules.specs.Tables.{emptied}
-use Rattle.rules.specs.Index.{Index, meaning, clear}
-use Rattle.rules.specs.Checks.{Checked, Outcome, largest, allowed, still_allowed, Comes}
+use Rattle.rules.specs.Index.{Index, meaning}
+use Rattle.rules.specs.Checks.{Checked, largest, allowed, still_allowed, Comes}
 use Rattle.rules.specs.TransactionRules.{tally_rule}
 use Rattle.rules.specs.TableRules.{open_rule, opened_store}
 use Rattle.tables.proofs.Steps.{pass, stop}

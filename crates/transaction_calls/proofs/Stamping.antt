@@ -1,5 +1,5 @@
 -- Calls that take a stamp, from check to check. Assumes nothing.
-use Rattle.std.proofs.Common.{◌≡◌, ℕ, ◌+◌, Bool, true, false, not, leb, List, length, set, is_some, Some, Ok, Err, sym, refl, ap, ◌∙◌}
+use Rattle.std.proofs.Common.{◌≡◌, ℕ, ◌+◌, true, false, leb, List, length, set, is_some, Some, Ok, Err, sym, ap, ◌∙◌}
 use Rattle.seeing.specs.declared.Level.{Level}
 use Rattle.seeing.specs.declared.Phase.TheVariants.{Preparing}
 use Rattle.seeing.specs.declared.Transaction.{Transaction}

@@ -1,6 +1,6 @@
 -- A sweep: a place swept, and the call from check to check. Assumes nothing.
 use Rattle.rules.specs.Worlds.{around}
-use Rattle.std.proofs.Common.{◌≡◌, ℕ, Bool, true, false, not, List, map, length, set, Some, None, Ok, Err, Option, Ordering, sym, refl, ap, ◌∙◌}
+use Rattle.std.proofs.Common.{◌≡◌, ℕ, true, false, not, List, map, length, set, Some, None, Ok, Err, Option, Ordering, sym, ap, ◌∙◌}
 use Rattle.seeing.specs.declared.Version.{Version}
 use Rattle.seeing.specs.Slots.{Slots}
 use Rattle.index.specs.Listed.{keep, listed}
@@ -11,7 +11,7 @@ use Rattle.rules.specs.declared.Answer.{Answer}
 use Rattle.rules.specs.declared.Answer.TheVariants as answer
 use Rattle.rules.specs.declared.Refusal.TheVariants as refusal
 use Rattle.rules.specs.Lists.{count}
-use Rattle.rules.specs.Tables.{entry, emptied}
+use Rattle.rules.specs.Tables.{entry}
 use Rattle.rules.specs.Index.{meaning}
 use Rattle.rules.specs.Checks.{Checked, still_allowed, Comes}
 use Rattle.rules.specs.TableRules.{to_sweep, swept_entry, sweeps_pair, sweep_rule}

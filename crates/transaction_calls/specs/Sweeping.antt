@@ -1,5 +1,5 @@
 -- A sweep, place by place. Assumes nothing.
-use Rattle.std.specs.Prelude.{ℕ, Bool, cond, not, ◌&&◌, List, Some, None, Option, nat_lt, slice_set}
+use Rattle.std.specs.Prelude.{ℕ, cond, not, ◌&&◌, List, Some, None, Option, nat_lt, slice_set}
 use Rattle.std.specs.declared.cmp.Ordering.{Ordering}
 use Rattle.seeing.specs.declared.Version.{Version}
 use Rattle.seeing.specs.Slots.{Slots}

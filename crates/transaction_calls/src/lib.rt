@@ -1,4 +1,5 @@
 // The calls that are not about rows: open, begin, prepare, commit, abort, finish, sweep and tally, over a store and what its caller lends.
+#![tactic(auto)]
 
 mod checks;
 mod ends;

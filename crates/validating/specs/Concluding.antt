@@ -1,17 +1,11 @@
 -- What a verdict leaves and answers, and what a call comes to. Assumes nothing.
-use Rattle.std.specs.Prelude.{◌≡◌, ℕ, List, Some, Ok, Err, Result, slice_set}
-use Rattle.seeing.specs.declared.Version.{Version}
-use Rattle.rules.specs.declared.Entry.{Entry}
+use Rattle.std.specs.Prelude.{ℕ, Some, Ok, Err, slice_set}
 use Rattle.rules.specs.declared.Store.{Store}
-use Rattle.rules.specs.declared.Note.{Note}
-use Rattle.rules.specs.declared.Row.{Row}
 use Rattle.rules.specs.declared.Answer.{Answer}
 use Rattle.rules.specs.declared.Answer.TheVariants as answer
-use Rattle.rules.specs.declared.Refusal.{Refusal}
 use Rattle.rules.specs.declared.Refusal.TheVariants as refusal
-use Rattle.rules.specs.Index.{Index}
-use Rattle.rules.specs.Worlds.{World, with_slots}
-use Rattle.rules.specs.Checks.{Checked, Outcome, or_as_found}
+use Rattle.rules.specs.Worlds.{with_slots}
+use Rattle.rules.specs.Checks.{Checked}
 use Rattle.rules.specs.Aborting.{abort_store}
 use Rattle.rules.specs.Validating.{validated}
 use Rattle.validating.specs.declared.Preparing.{Preparing}

@@ -1,4 +1,5 @@
 // The call validate: the notes of a transaction in the order made, and the versions that each covers.
+#![tactic(auto)]
 
 use seeing::Transaction;
 

@@ -1,4 +1,4 @@
-use Rattle.std.proofs.Common.{◌≡◌, sym, ◌∙◌}
+use Rattle.std.proofs.Common.{◌∙◌}
 use Rattle.std.proofs.lemmas.Result.{MatchResult-from_err}
 use Rattle.tables.proofs.Steps.{pass, stop, go_on, give_up, exit}
 use Rattle.transaction_calls.proofs.Calling.{finds_none}
