@@ -9,7 +9,7 @@ use Rattle.rules.specs.declared.Refusal.{Refusal}
 use Rattle.rules.specs.Worlds.{World, Choice, Allowed, with_rows}
 use Rattle.rules.specs.Rules.{rule}
 use Rattle.rules.specs.Book.{is_done}
-use Rattle.rules.specs.Runs.{Position, Run, opened, called, next, lend, told}
+use Rattle.rules.specs.Runs.{Position, Run, opened, called, told}
 use Rattle.rules.specs.Law.{Lawful}
 use Rattle.rules.proofs.Final.{serial_law}
 use Rattle.calls.specs.Promises.{afterwards, Answers, Goes_on, Begins}

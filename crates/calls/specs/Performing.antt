@@ -7,7 +7,6 @@ use Rattle.seeing.specs.Phases.{is_serializable}
 use Rattle.seeing.specs.Slots.{found}
 use Rattle.rules.specs.declared.Entry.{Entry}
 use Rattle.rules.specs.declared.Note.{Note}
-use Rattle.rules.specs.declared.Store.{Store}
 use Rattle.rules.specs.declared.Row.{Row}
 use Rattle.rules.specs.declared.BookCall.{BookCall}
 use Rattle.rules.specs.declared.BookCall.TheVariants as book

@@ -1,16 +1,12 @@
 -- What the calls promise. Assumes nothing.
-use Rattle.std.specs.Prelude.{◌≡◌, Bool, true, false, T, List, [], replicate, None, Result}
+use Rattle.std.specs.Prelude.{◌≡◌, T, List, [], replicate, None, Result}
 use Rattle.std.specs.declared.cmp.Ordering.{Ordering}
-use Rattle.seeing.specs.declared.Version.{Version}
-use Rattle.rules.specs.declared.Entry.{Entry}
 use Rattle.rules.specs.declared.Store.{Store}
-use Rattle.rules.specs.declared.Note.{Note}
 use Rattle.rules.specs.declared.Row.{Row}
 use Rattle.rules.specs.declared.Call.{Call}
 use Rattle.rules.specs.declared.Call.TheVariants as call
 use Rattle.rules.specs.declared.Answer.{Answer}
 use Rattle.rules.specs.declared.Refusal.{Refusal}
-use Rattle.rules.specs.Index.{Index}
 use Rattle.rules.specs.Worlds.{World, Choice, Allowed, with_rows}
 use Rattle.rules.specs.Rules.{rule}
 use Rattle.rules.specs.Book.{is_done}

@@ -1,4 +1,5 @@
 // The store that a caller holds, with its fourteen calls; `perform` takes any of them as a value, and its contract has the law over runs.
+#![tactic(auto)]
 
 mod changes;
 mod ends;

@@ -1,5 +1,7 @@
 // Plays an evening in which the later transaction commits first, and retells it on a plain book: each call with the book's
 // answer next to the store's, and the rows of both at the end.
+#![tactic(auto)]
+
 use keys::{CardNumber, Score};
 use ordered::CardsInOrder;
 use rules::{BookCall, Call, Row};

@@ -1,4 +1,6 @@
 // A whole play: an open and then calls, one after the other, with the law after each.
+#![tactic(auto)]
+
 ghost use Rattle.std.specs.Prelude.{◌≡◌, min, length, Some, slice_set};
 ghost use Rattle.rules.specs.Index.{meaning};
 ghost use Rattle.rules.specs.Worlds.{around};

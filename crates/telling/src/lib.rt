@@ -1,4 +1,5 @@
 // What a program tells of a table: each call with its answer, the transcript, and its retelling on a plain book.
+#![tactic(auto)]
 
 mod book;
 mod desk;
