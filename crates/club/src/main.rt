@@ -1,4 +1,5 @@
 // Six short evenings at a games club, one for each use of a table; every call is printed with its answer.
+#![tactic(auto)]
 
 mod automa;
 mod card_tray;
