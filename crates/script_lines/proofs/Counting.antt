@@ -1,9 +1,9 @@
 -- Lines with too many fields. Assumes nothing.
-use Rattle.std.proofs.Common.{◌≡◌, ℕ, List, [], ◌∷◌, Some, None, Ok, Err, Option, Result, sym, refl, ap, ◌∙◌, subst}
+use Rattle.std.proofs.Common.{◌≡◌, ℕ, List, ◌∷◌, Some, None, Err, Option, Result, sym, refl, ap, ◌∙◌}
 use Rattle.seeing.specs.declared.Level.{Level}
 use Rattle.script_lines.specs.declared.IndexKind.{IndexKind}
 use Rattle.script_lines.specs.declared.LineFault.{LineFault}
-use Rattle.script_lines.specs.declared.LineFault.TheVariants.{Word, Count}
+use Rattle.script_lines.specs.declared.LineFault.TheVariants.{Count}
 use Rattle.script_lines.specs.declared.words.CallWord.{CallWord}
 use Rattle.script_lines.specs.declared.words.CallWord.TheVariants as word
 use Rattle.script_lines.specs.Lines.{fields}

@@ -1,7 +1,7 @@
 -- Steps of a reading. Assumes nothing.
-use Rattle.std.proofs.Common.{◌≡◌, ℕ, suc, ◌+◌, ◌-◌, ◌*◌, ◌<◌, ◌≤◌, Bool, true, false, cond, ◌&&◌, eqb, leb, List, [], ◌∷◌, length, get_or, take, drop, pos, neg_ℤ, Some, None, Option, sym, refl, ap, ◌∙◌, arith, leb-true}
+use Rattle.std.proofs.Common.{◌≡◌, ℕ, ◌+◌, ◌-◌, ◌*◌, ◌<◌, ◌≤◌, Bool, true, false, cond, ◌&&◌, eqb, leb, List, [], ◌∷◌, length, get_or, pos, neg_ℤ, Some, None, Option, sym, refl, ap, ◌∙◌, arith, leb-true}
 use Rattle.std.specs.Option.{option_map}
-use Rattle.script_lines.specs.Numbers.{digit, all_digits, value_after, value, number_up_to, score_of}
+use Rattle.script_lines.specs.Numbers.{digit, all_digits, value_after, number_up_to, score_of}
 use Rattle.script_lines.specs.Growing.{grown, all_grown}
 use Rattle.script_lines.proofs.Cutting.{tail, tail_is}
 

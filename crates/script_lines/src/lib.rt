@@ -1,4 +1,6 @@
 // A script's bytes taken apart into lines, fields, words and numbers, down to the store's calls.
+#![tactic(auto)]
+
 mod calls;
 mod lines;
 mod numbers;

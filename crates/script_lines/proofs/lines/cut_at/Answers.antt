@@ -1,10 +1,10 @@
-use Rattle.std.proofs.Common.{◌≡◌, ◌-◌, ◌<◌, ◌≤◌, length, take, Some, sym, ap, ◌∙◌, arith, rules}
+use Rattle.std.proofs.Common.{◌≡◌, ◌-◌, ◌<◌, ◌≤◌, length, take, Some, ap, ◌∙◌, arith, rules}
 use Rattle.script_lines.specs.Cuts.{from}
 use Rattle.script_lines.proofs.Cutting.{tail, from_shorter, before_whole, after_none, after_some, before_is}
 use Rattle.script_lines.proofs.lines.cut_at.Goals as goal
 
-pub overflow-sub-result : goal.overflow-sub-result
-overflow-sub-result c = rw c.from_stop-ending.ensures (from_shorter c.args.stop c.args.bytes.now)
+pub overflow_sub-result : goal.overflow_sub-result
+overflow_sub-result c = rw c.from_stop-ending.ensures (from_shorter c.args.stop c.args.bytes.now)
 
 pub returns-in-empty : goal.returns-in-empty
 returns-in-empty c =

@@ -1,5 +1,5 @@
 use Rattle.std.proofs.Common.{sym, ◌∙◌, rules}
-use Rattle.script_lines.proofs.Cutting.{from_none, from_here, from_more}
+use Rattle.script_lines.proofs.Cutting.{from_none, from_more}
 use Rattle.script_lines.proofs.lines.from_stop.Goals as goal
 
 pub loop-rest-preserved : goal.loop-rest-preserved

@@ -1,4 +1,4 @@
-use Rattle.std.proofs.Common.{◌≡◌, ◌<◌, length, get_or, sym, ◌∙◌, arith, rules}
+use Rattle.std.proofs.Common.{◌<◌, length, get_or, sym, ◌∙◌, rules}
 use Rattle.script_lines.proofs.Reading.{grown_none, grown_more, grown_stop, grown_within, number_is}
 use Rattle.script_lines.proofs.numbers.up_to.Goals as goal
 
