@@ -1,4 +1,5 @@
 // The text that a script's run prints for each call and each faulty line, appended to a `String`.
+#![tactic(auto)]
 
 mod lines;
 mod words;

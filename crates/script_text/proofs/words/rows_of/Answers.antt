@@ -3,5 +3,5 @@ use Rattle.std.proofs.Common.{rules}
 use Rattle.std.proofs.lemmas.List.{take_all}
 use Rattle.script_text.proofs.words.rows_of.Goals as goal
 
-pub returns-else-count_rows : goal.returns-else-count_rows
-returns-else-count_rows g c = search (rules, take_all)
+pub returns-else-count-rows : goal.returns-else-count-rows
+returns-else-count-rows g c = search (rules, take_all)
