@@ -1,16 +1,15 @@
 -- The run that a script makes keeps the law. Assumes nothing.
-use Rattle.std.proofs.Common.{◌≡◌, T, List, [], ◌∷◌, sym, refl, ap, ◌∙◌, subst}
+use Rattle.std.proofs.Common.{◌≡◌, T, List, [], ◌∷◌, refl, ap}
 use Rattle.keys.specs.declared.CardNumber.{CardNumber}
 use Rattle.keys.specs.declared.Score.{Score}
 use Rattle.keys.specs.Kinds.{card_order, card_total}
 use Rattle.rules.specs.declared.Call.TheVariants as call
-use Rattle.rules.specs.Worlds.{World, with_rows}
+use Rattle.rules.specs.Worlds.{with_rows}
 use Rattle.rules.specs.Checks as checks
 use Rattle.rules.specs.Book.{is_done}
 use Rattle.rules.specs.Runs.{Position, Run}
-use Rattle.rules.specs.Law.{Lawful}
 use Rattle.rules.proofs.Final.{serial_law}
-use Rattle.calls.specs.Promises.{afterwards, Answers, Goes_on}
+use Rattle.calls.specs.Promises.{afterwards, Answers}
 use Rattle.calls.specs.Performing.{world_of}
 use Rattle.calls.proofs.Going.{goes_on, begins}
 use Rattle.calls.proofs.Performing.{performs}

@@ -1,12 +1,10 @@
 -- What is printed of lines, one after the other. Assumes nothing.
-use Rattle.std.proofs.Common.{◌≡◌, ℕ, ◌+◌, ◌≤◌, Bool, true, false, cond, List, [], ◌∷◌, ◌++◌, length, is_ok, IsErrAnd, IfOk, Ok, Err, Result, sym, refl, ap, ◌∙◌, append_assoc, arith}
+use Rattle.std.proofs.Common.{◌≡◌, ℕ, ◌+◌, ◌≤◌, Bool, true, false, cond, List, [], ◌∷◌, ◌++◌, length, is_ok, IsErrAnd, IfOk, Ok, Err, Result, sym, refl, ap, ◌∙◌, arith}
 use Rattle.std.proofs.lemmas.List.{append-nil}
 use Rattle.std.proofs.lemmas.Result.{err_from_is_err_and}
-use Rattle.keys.specs.declared.CardNumber.{CardNumber}
 use Rattle.keys.specs.declared.Score.{Score}
 use Rattle.rules.specs.declared.Answer.{Answer}
 use Rattle.rules.specs.declared.Refusal.{Refusal}
-use Rattle.rules.specs.declared.Row.{Row}
 use Rattle.script_lines.specs.Lines.{lines}
 use Rattle.script_lines.specs.Calls.{asked}
 use Rattle.script_text.specs.Texts.{reply_text}
@@ -14,7 +12,7 @@ use Rattle.script.specs.declared.faults.AtCall.{AtCall}
 use Rattle.script.specs.declared.faults.Cause.TheVariants as cause
 use Rattle.script.specs.declared.faults.ScriptFault.{ScriptFault}
 use Rattle.script.specs.Faults.{at_call, of_store, read_at, answered_at, fault_said, goes_on}
-use Rattle.script.specs.Running.{ScriptDesk, ScriptCall, Asked, carried, desk_after, line_said, result_of, told, Line-told}
+use Rattle.script.specs.Running.{ScriptDesk, ScriptCall, Asked, carried, desk_after, line_said, result_of, told, LineTold}
 
 abbrev told_with : ℕ → ScriptDesk → List ℕ → List (List ℕ) → Bool → List ℕ
 told_with line d l ls b = line_said line d (asked l) ++ cond b (told (line + 1) (desk_after d (asked l)) ls) []
@@ -108,12 +106,12 @@ module _ (line : ℕ) (d : ScriptDesk) where
 -- ---- a line, told
 
 module _ (line : ℕ) (d d' : ScriptDesk) (q : Asked) (leaves : d' ≡ desk_after d q) (out out' : List ℕ) where
-  pub told_done : (a : ScriptCall) (x : Answer Score) → Ok (a, x) ≡ result_of line d q → out' ≡ out ++ reply_text line a (Ok x) d'.rows → Line-told line d q d' out out' true
+  pub told_done : (a : ScriptCall) (x : Answer Score) → Ok (a, x) ≡ result_of line d q → out' ≡ out ++ reply_text line a (Ok x) d'.rows → LineTold line d q d' out out' true
   told_done a x is w =
       let h = said_done line d q a x is in
       record { writes = w ∙ ap (λ (z : ScriptDesk). out ++ reply_text line a (Ok x) z.rows) leaves ∙ ap (λ t. out ++ t) h.0; leaves = leaves; goes = h.1 }
 
-  pub told_fault : {E : Type 0} (f : ScriptFault) → Err f ≡ result_of line d q → (r : Result Bool E) → IfOk r (λ on. (out' ≡ out ++ fault_said f d'.rows) × (on ≡ goes_on f.cause)) → IfOk r (λ on. Line-told line d q d' out out' on)
+  pub told_fault : {E : Type 0} (f : ScriptFault) → Err f ≡ result_of line d q → (r : Result Bool E) → IfOk r (λ on. (out' ≡ out ++ fault_said f d'.rows) × (on ≡ goes_on f.cause)) → IfOk r (λ on. LineTold line d q d' out out' on)
   told_fault f is (Err e) w = tt
   told_fault f is (Ok on) w =
       let h = said_fault line d q f is in

@@ -1,5 +1,5 @@
 -- Lines one after the other, and the whole script. Assumes nothing.
-use Rattle.std.proofs.Common.{◌≡◌, ℕ, ◌+◌, ◌<◌, ◌≤◌, Bool, true, false, cond, eqb, ltb, List, [], ◌∷◌, ◌++◌, length, is_ok, is_err, IfOk, Ok, Err, codes, Result, sym, refl, ap, ◌∙◌, subst, append_assoc, arith}
+use Rattle.std.proofs.Common.{◌≡◌, ℕ, ◌+◌, ◌<◌, ◌≤◌, Bool, true, false, cond, eqb, ltb, List, [], ◌∷◌, ◌++◌, length, is_err, IfOk, Ok, Err, codes, Result, sym, refl, ap, ◌∙◌, subst, append_assoc, arith}
 use Rattle.std.proofs.lemmas.List.{append-nil}
 use Rattle.std.proofs.lemmas.Bool.{eqb-true, lt-ltb}
 use Rattle.keys.specs.declared.CardNumber.{CardNumber}
@@ -12,12 +12,12 @@ use Rattle.script_lines.specs.Lines.{lines}
 use Rattle.script_lines.specs.Calls.{asked}
 use Rattle.script_lines.specs.Kinds.{kind_of}
 use Rattle.script_text.specs.Texts.{heading_text, fault_text}
-use Rattle.script.specs.Running.{ScriptDesk, fresh_with, fresh, carried, opened, line_said, desk_after, told, Line-told, first_line, other_lines, script_said, script_text}
+use Rattle.script.specs.Running.{ScriptDesk, fresh_with, carried, opened, line_said, desk_after, told, LineTold, first_line, other_lines, script_said, script_text}
 use Rattle.script.proofs.Telling.{told_more, told_last, told_none}
 
 module _ (whole out : List ℕ) (line : ℕ) (d : ScriptDesk) (all : List (List ℕ)) (so_far : whole ≡ out ++ told line d all) (l : List ℕ) (ls : List (List ℕ)) (cut : all ≡ l ∷ ls) (d' : ScriptDesk) (out' : List ℕ) where
   -- the script goes on
-  pub one_more : (on : Bool) → Line-told line d (asked l) d' out out' on → on ≡ true → whole ≡ out' ++ told (line + 1) d' ls
+  pub one_more : (on : Bool) → LineTold line d (asked l) d' out out' on → on ≡ true → whole ≡ out' ++ told (line + 1) d' ls
   one_more on t e =
       so_far
       ∙ ap (λ x. out ++ x) (told_more line d l ls all cut (sym e ∙ t.goes))
@@ -26,7 +26,7 @@ module _ (whole out : List ℕ) (line : ℕ) (d : ScriptDesk) (all : List (List 
       ∙ ap (λ z. out' ++ told (line + 1) z ls) (sym t.leaves)
 
   -- the line ends it
-  pub the_last : (on : Bool) → Line-told line d (asked l) d' out out' on → on ≡ false → out' ≡ whole
+  pub the_last : (on : Bool) → LineTold line d (asked l) d' out out' on → on ≡ false → out' ≡ whole
   the_last on t e = t.writes ∙ ap (λ x. out ++ x) (sym (told_last line d l ls all cut (sym e ∙ t.goes))) ∙ sym so_far
 
 pub no_more : (whole out : List ℕ) (line : ℕ) (d : ScriptDesk) (text : List ℕ) → whole ≡ out ++ told line d (lines text) → length text ≤ 0 → out ≡ whole

@@ -20,7 +20,7 @@ use Rattle.script_lines.specs.Lines.{lines}
 use Rattle.script_lines.specs.Kinds.{kind_of}
 use Rattle.script_lines.specs.Calls.{asked}
 use Rattle.script_text.specs.Texts.{heading_text, fault_text, reply_text}
-use Rattle.script.specs.declared.tables.Tables.{Tables}
+use Rattle.script.specs.declared.desk.Tables.{Tables}
 use Rattle.script.specs.declared.faults.Cause.TheVariants as cause
 use Rattle.script.specs.declared.faults.ScriptFault.{ScriptFault}
 use Rattle.script.specs.Faults.{line_fault_text, answered_at}
@@ -86,7 +86,7 @@ told line d [] = []
 told line d (l ∷ ls) = line_said line d (asked l) ++ cond (is_ok (asked l)) (told (line + 1) (desk_after d (asked l)) ls) []
 
 -- one line of the script, carried out: what is written and left, and whether it goes on
-pub record Line-told (line : ℕ) (d : ScriptDesk) (q : Asked) (d' : ScriptDesk) (out out' : List ℕ) (on : Bool) : Type 0 where
+pub record LineTold (line : ℕ) (d : ScriptDesk) (q : Asked) (d' : ScriptDesk) (out out' : List ℕ) (on : Bool) : Type 0 where
   pub writes : out' ≡ out ++ line_said line d q
   pub leaves : d' ≡ desk_after d q
   pub goes : on ≡ is_ok q

@@ -3,8 +3,8 @@ ghost use Rattle.std.specs.Prelude.{◌≡◌, ◌≤◌, [], ◌++◌, length, 
 ghost use Rattle.script_lines.specs.Lines.{lines};
 ghost use Rattle.script.specs.Running.{opened, told, script_said, script_text, ScriptLaw, first_line, other_lines};
 
+use crate::desk::Tables;
 use crate::faults::say_line_fault;
-use crate::tables::Tables;
 use chains::CardChains;
 use index::Index;
 use keys::CardNumber;

@@ -1,4 +1,3 @@
-use Rattle.std.proofs.Common.{arith}
 use Rattle.std.proofs.lemmas.Bool.{le-ltb}
 use Rattle.script.proofs.Wholes.{not_made, rest_within, size_alone, under_heading, in_lines}
 use Rattle.script.proofs.Lawfully.{script_law}

@@ -1,6 +1,6 @@
 use Rattle.std.proofs.Common.{◌∙◌}
 use Rattle.script.proofs.Telling.{exit, faulty, refused, answered}
-use Rattle.script.proofs.tables.Tables.carry_out.Goals as goal
+use Rattle.script.proofs.desk.Tables.carry_out.Goals as goal
 
 pub returns-in_err-call : goal.returns-in_err-call
 returns-in_err-call g c =

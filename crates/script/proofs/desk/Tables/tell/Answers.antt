@@ -1,6 +1,6 @@
 use Rattle.std.proofs.Common.{arith}
 use Rattle.script.proofs.Wholes.{one_more, the_last, no_more, some_left, none_left}
-use Rattle.script.proofs.tables.Tables.tell.Goals as goal
+use Rattle.script.proofs.desk.Tables.tell.Goals as goal
 
 pub returns-then-not-goes : goal.returns-then-not-goes
 returns-then-not-goes g c =

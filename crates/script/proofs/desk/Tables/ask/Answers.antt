@@ -1,5 +1,5 @@
 use Rattle.script.specs.Running.{carried}
-use Rattle.script.proofs.tables.Tables.ask.Goals as goal
+use Rattle.script.proofs.desk.Tables.ask.Goals as goal
 
 pub returns : goal.returns
 unfolding carried

@@ -6,7 +6,7 @@ ghost use Rattle.rules.specs.declared.Call.TheVariants as call;
 ghost use Rattle.rules.specs.Index.{meaning};
 ghost use Rattle.keys.specs.Kinds.{card_order};
 ghost use Rattle.script.specs.Faults.{read_at};
-ghost use Rattle.script.specs.Running.{desk_of, fresh_with, carried, result_of, desk_after, Line-told, told};
+ghost use Rattle.script.specs.Running.{desk_of, fresh_with, carried, result_of, desk_after, LineTold, told};
 
 use crate::faults::{ScriptFault, at_call, at_line, say_script_fault};
 use calls::TableStore;
@@ -93,7 +93,7 @@ impl<I: Index<Key = CardNumber>> Tables<I> {
 
     // Carries out a line and writes what comes of it; whether the script goes on.
     fn tell_line(&mut self, line: usize, bytes: &[u8], out: &mut String) -> Result<bool, AllocError>
-        ensures { IfOk result (λ goes. Line-told line (desk_of I.pairs I.limit self.old) (asked bytes.now) (desk_of I.pairs I.limit self.new) (string_bytes out.old) (string_bytes out.new) goes) }
+        ensures { IfOk result (λ goes. LineTold line (desk_of I.pairs I.limit self.old) (asked bytes.now) (desk_of I.pairs I.limit self.new) (string_bytes out.old) (string_bytes out.new) goes) }
     {
         match self.carry_out(line, bytes) {
             Ok((call, answer)) => {

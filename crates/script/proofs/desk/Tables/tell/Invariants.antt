@@ -1,7 +1,7 @@
 use Rattle.std.proofs.Common.{◌≡◌, ◌+◌, ◌^◌, ◌<◌, ◌++◌, length, string_bytes}
 use Rattle.script_lines.specs.Lines.{lines}
 use Rattle.script.specs.Running.{desk_of, told}
-use Rattle.script.proofs.tables.Tables.tell.Given as goal
+use Rattle.script.proofs.desk.Tables.tell.Given as goal
 
 -- what is written so far and what the lines left are to print make up the whole
 abbrev pub invariant-loop-rest : goal.invariant-loop-rest
