@@ -1,4 +1,6 @@
 // Files a deck of cards in an index: the same actions over both indexes and both kinds of key, each printed on a line.
+#![tactic(auto)]
+
 use chains::{CardChains, PlaceChains};
 use index::{Index, Put, next_pair};
 use keys::{BoardPlace, CardNumber, Key};
