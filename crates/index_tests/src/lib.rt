@@ -1,3 +1,5 @@
+#![tactic(auto)]
+
 // Tests of both indexes over both kinds of key: edges, a table of cases, and a random walk beside a plain list of pairs.
 #[cfg(test)]
 mod edges;
