@@ -1,4 +1,6 @@
 // A store with its tables and its index, for the tests and the bench: the one place where they ask the store.
+#![tactic(auto)]
+
 use calls::TableStore;
 use index::Index;
 use keys::{CardNumber, Score};
