@@ -18,6 +18,8 @@ DOTTED = re.compile(r"(?<=\.)(" + WORD + r"(?:-[\w'≢≡₀-₉]+)+)(?![\w'-])"
 DECLARED = re.compile(r"^\s*(?:pub |abbrev |unfoldable |data |record |module |infix\w* \d+ )*(" + WORD + r"(?:-[\w'≢≡₀-₉]+)+)\s+:\s*(.*)$", re.M)
 # parameters that stand for a field of src/, and other local names
 ALSO = {"version-hint": "version_hint", "note-hint": "note_hint"}
+# a type that port.py took for a word
+TYPES = {"Goes_on": "GoesOn"}
 
 
 def respelled(name, is_type):
@@ -83,6 +85,8 @@ def turn(text, table, path, said):
     new = KEBAB.sub(one, text)
     # a dotted use is a field or an item of a module: fields of Rattle's own (c.in-Some) are not in the table
     new = DOTTED.sub(one, new)
+    for word, name in TYPES.items():
+        new = re.sub(r"(?<![\w'-])" + word + r"(?![\w'-])", name, new)
     words = set(re.findall(r"[\w'≢≡₀-₉]+(?:-[\w'≢≡₀-₉]+)*", text))
     for n in sorted(turned):
         if table[n] in words:

@@ -12,7 +12,7 @@ use Rattle.rules.specs.Book.{is_done}
 use Rattle.rules.specs.Runs.{Position, Run, opened, called, told}
 use Rattle.rules.specs.Law.{Lawful}
 use Rattle.rules.proofs.Final.{serial_law}
-use Rattle.calls.specs.Promises.{afterwards, Answers, Goes_on, Begins}
+use Rattle.calls.specs.Promises.{afterwards, Answers, GoesOn, Begins}
 
 is_true : (b : Bool) → T b → b ≡ true
 is_true true t = refl
@@ -31,7 +31,7 @@ module _ {K V : Type 0} (order : K → K → Ordering) (total : TotalOrder order
   for_any_rows : (c : Choice) (w : World K V) (rows : List (Row K V)) → Allowed c (with_rows w rows) → Allowed c w
   for_any_rows c w rows ok = record { version = ok.version; note = ok.note }
 
-  pub goes_on : (w w' : World K V) (a : Call K V) (r : Result (Answer V) Refusal) → Answers order w w' a r → Goes_on order w w' a r
+  pub goes_on : (w w' : World K V) (a : Call K V) (r : Result (Answer V) Refusal) → Answers order w w' a r → GoesOn order w w' a r
   goes_on w w' a r x p run same =
       let P : World K V → Type 0 = λ z. Allowed x.0 z in
       let Q : Position K V → Type 0 = λ q. Run order q in

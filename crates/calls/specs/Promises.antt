@@ -33,8 +33,8 @@ module _ {K V : Type 0} (order : K → K → Ordering) where
 
   -- every run that led to the world w, but for the row table, which the caller lends anew for each call, goes on by this call:
   -- it is a run again, and the law holds after it
-  abbrev pub Goes_on : World K V → World K V → Call K V → Result (Answer V) Refusal → Type 0
-  Goes_on w w' a r =
+  abbrev pub GoesOn : World K V → World K V → Call K V → Result (Answer V) Refusal → Type 0
+  GoesOn w w' a r =
       (p : Position K V) → Run order p → with_rows p.world w.rows ≡ w →
       Run order (afterwards p w' a r) × Lawful order (afterwards p w' a r)
 

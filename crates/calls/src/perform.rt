@@ -2,7 +2,7 @@
 ghost use Rattle.rules.specs.Worlds.{around};
 ghost use Rattle.std.specs.Prelude.{◌≡◌};
 ghost use Rattle.rules.specs.Index.{meaning};
-ghost use Rattle.calls.specs.Promises.{Answers, Goes_on, Begins};
+ghost use Rattle.calls.specs.Promises.{Answers, GoesOn, Begins};
 ghost use Rattle.calls.specs.Performing.{desk, performed};
 
 use crate::TableStore;
@@ -90,7 +90,7 @@ impl TableStore {
     ) -> Result<Answer<V>, Refusal>
         ensures exact { performed I.Key.Key.order (desk self.old versions.old notes.old (meaning I.Key.Key.order (I.pairs index.old) (I.limit index.old)) rows.old) call ≡ (desk self.new versions.new notes.new (meaning I.Key.Key.order (I.pairs index.new) (I.limit index.new)) rows.new, result) }
         ensures answers { Answers I.Key.Key.order (around self.old.store versions.old notes.old (meaning I.Key.Key.order (I.pairs index.old) (I.limit index.old)) rows.old) (around self.new.store versions.new notes.new (meaning I.Key.Key.order (I.pairs index.new) (I.limit index.new)) rows.new) call result }
-        ensures law { Goes_on I.Key.Key.order (around self.old.store versions.old notes.old (meaning I.Key.Key.order (I.pairs index.old) (I.limit index.old)) rows.old) (around self.new.store versions.new notes.new (meaning I.Key.Key.order (I.pairs index.new) (I.limit index.new)) rows.new) call result }
+        ensures law { GoesOn I.Key.Key.order (around self.old.store versions.old notes.old (meaning I.Key.Key.order (I.pairs index.old) (I.limit index.old)) rows.old) (around self.new.store versions.new notes.new (meaning I.Key.Key.order (I.pairs index.new) (I.limit index.new)) rows.new) call result }
         ensures opens { Begins I.Key.Key.order (around self.new.store versions.new notes.new (meaning I.Key.Key.order (I.pairs index.new) (I.limit index.new)) rows.new) call result }
     {
         self.carry_out(versions, notes, index, rows, call)

@@ -4,7 +4,7 @@ use Rattle.std.proofs.lemmas.List.{append_assoc, map-append, length-map, length_
 use Rattle.rules.specs.declared.Call.{Call}
 use Rattle.rules.specs.Worlds.{World, with_rows}
 use Rattle.rules.specs.Runs.{Position, Run}
-use Rattle.calls.specs.Promises.{afterwards, Answers, Goes_on}
+use Rattle.calls.specs.Promises.{afterwards, Answers, GoesOn}
 use Rattle.playing.specs.Plays.{Reply, Played, none, one_more, PlaysOn}
 
 -- one more entry of a table that is filled from the front
@@ -30,7 +30,7 @@ module _ {K V : Type 0} (order : K → K → Ordering) where
 
   pub play_more : (w u w' : World K V) (calls : List (Call K V)) (answers before after : List (Option (Reply V))) (i : ℕ) (a : Call K V) (r : Reply V) →
       i < length calls → i < length answers → a ≡ get_or calls i a → PlaysOn order w u calls answers before i →
-      Answers order u w' a r → Goes_on order u w' a r → after ≡ set before i (Some r) → PlaysOn order w w' calls answers after (i + 1)
+      Answers order u w' a r → GoesOn order u w' a r → after ≡ set before i (Some r) → PlaysOn order w w' calls answers after (i + 1)
   play_more w u w' calls answers before after i a r in-calls in-answers read led x law written p run at =
       let h = led p run at in
       let rs = h.0 in

@@ -4,7 +4,7 @@
 ghost use Rattle.std.specs.Prelude.{◌≡◌, min, length, Some, slice_set};
 ghost use Rattle.rules.specs.Index.{meaning};
 ghost use Rattle.rules.specs.Worlds.{around};
-ghost use Rattle.calls.specs.Promises.{Answers, Goes_on};
+ghost use Rattle.calls.specs.Promises.{Answers, GoesOn};
 ghost use Rattle.playing.specs.Plays.{PlaysOn, Plays};
 
 use calls::TableStore;
@@ -33,7 +33,7 @@ fn play_one<I: Index, V: Copy>(
 ) -> Result<Answer<V>, Refusal>
     ensures writes { answers.new ≡ slice_set answers.old place (Some result) }
     ensures answers { Answers I.Key.Key.order (around store.old.store versions.old notes.old (meaning I.Key.Key.order (I.pairs index.old) (I.limit index.old)) rows.old) (around store.new.store versions.new notes.new (meaning I.Key.Key.order (I.pairs index.new) (I.limit index.new)) rows.new) call result }
-    ensures law { Goes_on I.Key.Key.order (around store.old.store versions.old notes.old (meaning I.Key.Key.order (I.pairs index.old) (I.limit index.old)) rows.old) (around store.new.store versions.new notes.new (meaning I.Key.Key.order (I.pairs index.new) (I.limit index.new)) rows.new) call result }
+    ensures law { GoesOn I.Key.Key.order (around store.old.store versions.old notes.old (meaning I.Key.Key.order (I.pairs index.old) (I.limit index.old)) rows.old) (around store.new.store versions.new notes.new (meaning I.Key.Key.order (I.pairs index.new) (I.limit index.new)) rows.new) call result }
 {
     let answer = store.perform(versions, notes, index, rows, call);
     set_at(answers, place, Some(answer));
