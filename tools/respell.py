@@ -16,8 +16,10 @@ WORD = r"[A-Za-z_'][\w'≢≡₀-₉]*"
 KEBAB = re.compile(r"(?<![\w'.-])(" + WORD + r"(?:-[\w'≢≡₀-₉]+)+)(?![\w'-])")
 DOTTED = re.compile(r"(?<=\.)(" + WORD + r"(?:-[\w'≢≡₀-₉]+)+)(?![\w'-])")
 DECLARED = re.compile(r"^\s*(?:pub |abbrev |unfoldable |data |record |module |infix\w* \d+ )*(" + WORD + r"(?:-[\w'≢≡₀-₉]+)+)\s+:\s*(.*)$", re.M)
-# parameters that stand for a field of src/, and other local names
-ALSO = {"version-hint": "version_hint", "note-hint": "note_hint"}
+# parameters that stand for a field of src/, and names that a `let`, a `λ` or a clause's pattern binds
+ALSO = """version-hint note-hint waited-on at-Q at-R at-k in-answers in-calls in-set inside-range low-a low-j met-it not-ser on-j
+    shorter-too there-n told-so validated-with"""
+RECORD = re.compile(r"^\s*(?:pub )?(?:record|data) (" + WORD + r"(?:-[\w'≢≡₀-₉]+)+)[\s:]", re.M)
 # a type that port.py took for a word
 TYPES = {"Goes_on": "GoesOn"}
 
@@ -57,6 +59,9 @@ def own():
                 (goals if goal(m.group(1), m.group(2)) else names).add(m.group(1))
                 if m.group(1)[0].isupper() and m.group(2).rstrip().endswith("Type 0"):
                     types.add(m.group(1))
+            for m in RECORD.finditer(read(p)):
+                names.add(m.group(1))
+                types.add(m.group(1))
     return {n: respelled(n, n in types) for n in names - goals}
 
 
@@ -96,7 +101,7 @@ def turn(text, table, path, said):
 
 def main():
     table = own()
-    table.update(ALSO)
+    table.update({n: respelled(n, False) for n in ALSO.split()})
     said = []
     by = {}
     for old, new in table.items():

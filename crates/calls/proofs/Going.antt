@@ -43,8 +43,8 @@ module _ {K V : Type 0} (order : K → K → Ordering) (total : TotalOrder order
   begun w w' stamp r x done =
       let Q : Position K V → Type 0 = λ q. Run order q in
       let F : Bool → Position K V = λ b. record { world = w'; history = cond b [] [] } in
-      let told-so : is_done (rule order x.0 w (call.Open stamp)).1 ≡ true = ap (λ (z : World K V × Result (Answer V) Refusal). is_done z.1) x.2 ∙ done in
-      subst Q (comes_to (call.Open stamp) [] (rule order x.0 w (call.Open stamp)) (w', r) x.2 ∙ ap F done) (opened w x.0 stamp (subst T (sym told-so) tt))
+      let told_so : is_done (rule order x.0 w (call.Open stamp)).1 ≡ true = ap (λ (z : World K V × Result (Answer V) Refusal). is_done z.1) x.2 ∙ done in
+      subst Q (comes_to (call.Open stamp) [] (rule order x.0 w (call.Open stamp)) (w', r) x.2 ∙ ap F done) (opened w x.0 stamp (subst T (sym told_so) tt))
 
   pub begins : (w w' : World K V) (a : Call K V) (r : Result (Answer V) Refusal) → Answers order w w' a r → Begins order w' a r
   begins w w' (call.Open stamp) r x = λ done. both (record { world = w'; history = [] }) (begun w w' stamp r x (is_true (is_done r) done))

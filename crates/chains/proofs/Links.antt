@@ -88,7 +88,7 @@ module _ (cs ls hs : List ℕ) (r : Right cs ls hs) (i c : ℕ) (small : c < 256
       let small_a : get_or cs a 256 < 256 = omega arith in
       let first : last_of c cs a ≡ suc i = ap (λ d. last_of d cs a) (sym on) ∙ sym (r.links a small_a) ∙ e in
       let within = in_list cs a small_a in
-      let low-a = last_low c cs a in
+      let low_a = last_low c cs a in
       let long = length-set cs i 256 in
       record {
         even = length-set ls a (get_or ls i 0) ∙ r.even ∙ sym long;
@@ -104,11 +104,11 @@ module _ (cs ls hs : List ℕ) (r : Right cs ls hs) (i c : ℕ) (small : c < 256
             (λ (s : j ≡ a → ⊥).
             get_or-set_other ls a j (get_or ls i 0) 0 s
             ∙ link_stays j h
-            (λ f on-j.
-            let low-j = last_low c cs j in
+            (λ f on_j.
+            let low_j = last_low c cs j in
             ⊎_elim (λ (u : j ≡ a). s u)
             (⊎_elim
-            (λ (u : j < a). last_past c cs a j (omega arith) u on-j)
+            (λ (u : j < a). last_past c cs a j (omega arith) u on_j)
             (λ (u : a < j). last_past c cs j a (omega arith) u on))
             (cases_order j a)))
             (cases_eq j a);
@@ -289,11 +289,11 @@ push_right cs ls hs c r small =
 pub pop_right : (cs ls hs : List ℕ) (m c : ℕ) → Right cs ls hs → length cs ≡ suc m → get_or cs m 256 ≡ c → c < 256 → Right (take m cs) (take m ls) (set hs c (get_or ls m 0))
 pop_right cs ls hs m c r long at small =
     let shorter = length-take-le m cs (omega arith) in
-    let shorter-too = length-take-le m ls (let e = r.even in omega arith) in
+    let shorter_too = length-take-le m ls (let e = r.even in omega arith) in
     let front : (d k : ℕ) → k ≤ m → last_of d cs k ≡ last_of d (take m cs) k = λ d k l. last_same d cs (take m cs) k (λ j u. sym (get_or-take m cs j 256 (omega arith))) in
     let top : (d : ℕ) → last_of d cs (length cs) ≡ cond (eqb c d) (suc m) (last_of d cs m) = λ d. ap (last_of d cs) long ∙ ap (λ e. cond (eqb e d) (suc m) (last_of d cs m)) at in
     record {
-      even = shorter-too ∙ sym shorter;
+      even = shorter_too ∙ sym shorter;
       fixed = length-set hs c (get_or ls m 0) ∙ r.fixed;
       links = λ j h.
           let within : j < m = let w = in_list (take m cs) j h in omega arith in

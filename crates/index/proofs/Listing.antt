@@ -203,7 +203,7 @@ module _ {K : Type 0} (o : K → K → Ordering) (laws : TotalOrder o) where
         go q true e = and_left (from_on o k p upper q) true (h q e)
         go q false e = and_right (from_on o k p upper q) false refl
 
-    module _ (x : K × ℕ) (in-set : holds o xs x ≡ true) (low : Le o laws (k, p) x) (high : is_le (o x.0 upper) ≡ true) (lowest : (y : K × ℕ) → holds o xs y ≡ true → Le o laws (k, p) y → Lt o laws y x → ⊥) where
+    module _ (x : K × ℕ) (in_set : holds o xs x ≡ true) (low : Le o laws (k, p) x) (high : is_le (o x.0 upper) ≡ true) (lowest : (y : K × ℕ) → holds o xs y ≡ true → Le o laws (k, p) y → Lt o laws y x → ⊥) where
       here : from_on o k p upper x ≡ true
       here = and_from (is_le (pair_order o (k, p) x)) (is_le (o x.0 upper)) low high
 
@@ -222,7 +222,7 @@ module _ {K : Type 0} (o : K → K → Ordering) (laws : TotalOrder o) where
       same_held q Less true e g = ap (λ t. t && true) (other q g (inl e))
       same_held q Less false e g = and_right (from_on o k p upper q) false refl ∙ sym (and_right (from_on o x.0 (x.1 + 1) upper q) false refl)
       same_held q Equal true e g = ap (λ t. from_on o k p upper t && true) (same_pair o laws q x e) ∙ ap (λ t. t && true) here
-      same_held q Equal false e g = absurd (true≢false (sym in-set ∙ ap (holds o xs) (sym (same_pair o laws q x e)) ∙ g))
+      same_held q Equal false e g = absurd (true≢false (sym in_set ∙ ap (holds o xs) (sym (same_pair o laws q x e)) ∙ g))
       same_held q Greater true e g = ap (λ t. t && true) (other q g (inr ((pair_total o laws).antisymm x q ∙ ap ordering_reverse e)))
       same_held q Greater false e g = and_right (from_on o k p upper q) false refl ∙ sym (and_right (from_on o x.0 (x.1 + 1) upper q) false refl)
 

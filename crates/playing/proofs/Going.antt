@@ -31,20 +31,20 @@ module _ {K V : Type 0} (order : K → K → Ordering) where
   pub play_more : (w u w' : World K V) (calls : List (Call K V)) (answers before after : List (Option (Reply V))) (i : ℕ) (a : Call K V) (r : Reply V) →
       i < length calls → i < length answers → a ≡ get_or calls i a → PlaysOn order w u calls answers before i →
       Answers order u w' a r → GoesOn order u w' a r → after ≡ set before i (Some r) → PlaysOn order w w' calls answers after (i + 1)
-  play_more w u w' calls answers before after i a r in-calls in-answers read led x law written p run at =
+  play_more w u w' calls answers before after i a r in_calls in_answers read led x law written p run at =
       let h = led p run at in
       let rs = h.0 in
       let q = h.1 in
       let on = law q (run_again run h.2) (ap (λ z. with_rows z u.rows) h.3) in
       let P : World K V → Type 0 = λ z. Answers order z w' a r in
       let Q : List (Call K V) → Type 0 = λ cs. Played order p cs (rs ++ (r ∷ [])) (afterwards q w' a r) in
-      let one : take i calls ++ (a ∷ []) ≡ take (i + 1) calls = ap (λ z. take i calls ++ (z ∷ [])) read ∙ sym (take_more calls i a in-calls) in
+      let one : take i calls ++ (a ∷ []) ≡ take (i + 1) calls = ap (λ z. take i calls ++ (z ∷ [])) read ∙ sym (take_more calls i a in_calls) in
       let long : length rs ≡ i = as_many h.2 ∙ length-take-le i calls (omega arith) in (
         rs ++ (r ∷ []),
         afterwards q w' a r,
         subst Q one (one_more h.2 w' a r (subst P (sym h.3) x) on.0 on.1),
         refl,
-        written ∙ ap (λ ys. set ys i (Some r)) h.4 ∙ filled_more rs r answers i long in-answers,
+        written ∙ ap (λ ys. set ys i (Some r)) h.4 ∙ filled_more rs r answers i long in_answers,
       )
 
   pub play_all : (w w' : World K V) (calls : List (Call K V)) (answers answers' : List (Option (Reply V))) (i n : ℕ) →

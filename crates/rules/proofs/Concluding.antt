@@ -56,7 +56,7 @@ module _ {K : Type 0} (V : Type 0) (order : K → K → Ordering) (total : Total
 
     noting_is : (what : Option (Noted K)) → Comes (λ y. Noting what y.1) (noting c.note n u what w.notes)
     noting_is None = comes (record { many = refl; kept = λ l x h. h; made = λ x e. absurd (some_none (sym e)) })
-    noting_is (Some what) = either _ (λ ser. unless _ _ refl (λ e. comes (written (not-false _ e)))) (λ not-ser. comes (record { many = refl; kept = λ l x h. h; made = λ x e ser. absurd (true≢false (sym ser ∙ sym level ∙ not-ser)) }))
+    noting_is (Some what) = either _ (λ ser. unless _ _ refl (λ e. comes (written (not-false _ e)))) (λ not_ser. comes (record { many = refl; kept = λ l x h. h; made = λ x e ser. absurd (true≢false (sym ser ∙ sym level ∙ not_ser)) }))
       where
         written : any_free w.notes ≡ true → Noting (Some what) (set w.notes c.note (filled (record { owner = n; number = u.made; noted = what })))
         written free = record {

@@ -11,7 +11,7 @@ use Rattle.seeing.specs.Seeing.{as_end}
 use Rattle.seeing.specs.Changing.{too_new, ends_at, not_writable}
 use Rattle.seeing.specs.Phases.{busy_after, is_aborted}
 use Rattle.serial.specs.Lists.{In, All}
-use Rattle.serial.specs.Machine.{Game, Transaction, State, Stage, active, preparing, validated, committed, pending, view, below, touched, In-turn, Reached}
+use Rattle.serial.specs.Machine.{Game, Transaction, State, Stage, active, preparing, validated, committed, pending, view, below, touched, InTurn, Reached}
 use Rattle.serial.proofs.Lists.{All_at}
 use Rattle.serial.proofs.Kill.{All_in}
 use Rattle.serial.proofs.Steps.{sound}
@@ -62,7 +62,7 @@ module _ (G : Game) (vs : List (Entry (Ver G))) (ts : Slots) (s : State G) (way 
   not_once x j = All_at (λ x. x.end ≡ t.name → ⊥) x s.line j (All_at (λ u. All (λ x. x.end ≡ u.name → ⊥) s.line) t s.active i (ordered G s way).once)
 
   -- where t has changed the key before, it came to it in turn and alone
-  pub turn_again : touched G t.moves k ≡ true → In-turn G t.name s.line k
+  pub turn_again : touched G t.moves k ≡ true → InTurn G t.name s.line k
   turn_again e = All_at (λ u. Turns G u s.line) t s.active i (ordered G s way).turns k e
 
   pub alone_again : touched G t.moves k ≡ true → (u : Transaction G) → In u s.active → touched G u.moves k ≡ true → u.name ≡ t.name
@@ -128,10 +128,10 @@ module _ (G : Game) (vs : List (Entry (Ver G))) (ts : Slots) (s : State G) (way 
         clash : v.end ≡ end.Stamp b → ⊥
         clash o = let z : ◌≡◌ {A = ℕ} 0 1 = cc in omega arith
 
-    pub turn_insert : (touched G t.moves k ≡ false → view G (below G t.name s.line) k ≡ None) → In-turn G t.name s.line k
+    pub turn_insert : (touched G t.moves k ≡ false → view G (below G t.name s.line) k ≡ None) → InTurn G t.name s.line k
     turn_insert bare = ⊎_elim turn_again fresh (cases_Bool (touched G t.moves k))
       where
-        fresh : touched G t.moves k ≡ false → In-turn G t.name s.line k
+        fresh : touched G t.moves k ≡ false → InTurn G t.name s.line k
         fresh free = record { early = All_in _ s.line early; same = now (view G s.line k) refl ∙ sym (bare free) }
           where
             early : (x : Transaction G) → In x s.line → pending x.stage ≡ true → touched G x.moves k ≡ true → x.end < t.name
@@ -222,7 +222,7 @@ module _ (G : Game) (vs : List (Entry (Ver G))) (ts : Slots) (s : State G) (way 
         let z = (h.shows R (late R le)).sound p v a (shown_on R le) in
         ap (latest G (upto G R s.line)) (sym at_key) ∙ z.1.1 ∙ ap (λ x. Some (x, Some v.value)) (some_injective (sym z.1.0 ∙ begun_then.1.0))
 
-    pub turn_one : In-turn G t.name s.line k
+    pub turn_one : InTurn G t.name s.line k
     turn_one = record {
       early = All_in _ s.line early;
       same = view_latest G s.line k ∙ ap (λ l. content (latest G l k)) (sym upto_clock) ∙ ap content (latest_on s.clock clock_late ∙ sym (latest_on t.name (omega arith)))

@@ -18,7 +18,7 @@ use Rattle.rules.specs.Runs as runs
 use Rattle.rules.specs.Runs.{life, lived, Position}
 use Rattle.rules.specs.Law.{is_doomed}
 use Rattle.serial.specs.Lists.{In, change}
-use Rattle.serial.specs.Machine.{Transaction, State, active, pending, moved, May-move, move, Reached, next}
+use Rattle.serial.specs.Machine.{Transaction, State, active, pending, moved, MayMove, move, Reached, next}
 use Rattle.serial.proofs.Kill.{All_in}
 use Rattle.serial.proofs.Orders.{In_changed}
 use Rattle.rules.proofs.Game.{game}
@@ -45,10 +45,10 @@ module _ {K : Type 0} (V : Type 0) (order : K → K → Ordering) (total : Total
   position_moved vs ns rows i = record { world = record { store = with_slots p.world.store slots_moved; versions = vs; notes = ns; rows = rows; index = i }; history = (n, runs.Exchanged x₀) ∷ p.history }
 
   module _ (t : Transaction (game V order total)) (i : In t s.active) (named : t.name ≡ n) (u : Sitter) (found : find p.world.store.slots n ≡ Some u)
-      (is : ws ≡ marked_too p.world.store.slots W u.waits) (may : May-move (game V order total) s.active s.line x₀ W t) where
+      (is : ws ≡ marked_too p.world.store.slots W u.waits) (may : MayMove (game V order total) s.active s.line x₀ W t) where
     way_moved : Reached (game V order total) state_moved
     way_moved = next inv.way (move n x₀ W (All_in _ s.active (λ x j e.
-        subst (May-move (game V order total) s.active s.line x₀ W) (same_active (game V order total) p.world.store.slots s inv.way inv.roll t x i j (named ∙ sym e)) may)))
+        subst (MayMove (game V order total) s.active s.line x₀ W) (same_active (game V order total) p.world.store.slots s inv.way inv.roll t x i j (named ∙ sym e)) may)))
 
     work : t.stage ≡ active
     work = (inv.roll.at_work t i).0

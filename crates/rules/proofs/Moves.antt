@@ -13,7 +13,7 @@ use Rattle.seeing.specs.Seeing.{as_end, preparing_other, begun, ended, waits_for
 use Rattle.rules.specs.Book.{Exchange}
 use Rattle.rules.specs.Runs.{Position}
 use Rattle.serial.specs.Lists.{In, All}
-use Rattle.serial.specs.Machine.{Game, Transaction, State, pending, Pending, Leads, direct, through, Minds, May-move, touched, covered, view, below, play, given, moved, Reached}
+use Rattle.serial.specs.Machine.{Game, Transaction, State, pending, Pending, Leads, direct, through, Minds, MayMove, touched, covered, view, below, play, given, moved, Reached}
 use Rattle.serial.proofs.Lists.{All_at, In_right}
 use Rattle.serial.proofs.Waits.{leads_more}
 use Rattle.serial.proofs.Kill.{All_in}
@@ -94,7 +94,7 @@ module _ {K : Type 0} (V : Type 0) (order : K → K → Ordering) (total : Total
       (right : (game V order total).right x (play (game V order total) (view (game V order total) (below (game V order total) t.name s.line)) t.moves))
       (guards₁ : Guards V order total ns₁ vs s)
       (guard : t.ser ≡ true → (k : K) → (game V order total).covers x k ≡ true → touched (game V order total) t.moves k ≡ false → Guarded V order total ns₁ vs s.line t.name k) where
-    may : May-move (game V order total) s.active s.line x W t
+    may : MayMove (game V order total) s.active s.line x W t
     may = record {
       turn = λ k g. absurd (false≢true (sym (ap given (none k)) ∙ g));
       alone = λ k g. absurd (false≢true (sym (ap given (none k)) ∙ g));

@@ -92,7 +92,7 @@ module _ {K : Type 0} (V : Type 0) (order : K → K → Ordering) (total : Total
     -- a value is seen: its version is noted, unless it is t's own
     pub present_keeps : (b : BookCall K V) (a : Answer V) (x : Met K V) → first_seen w.store.slots n met ≡ Some x → is_done (Ok a) ≡ false → number_in (Ok a) ≡ 0 → ((j : K) → looks order b j ≡ same order k j) → RightOne b a →
         Comes (λ r. Good V order total (after V order total p (call.Book n b) r)) (conclude c w n u (note_of n k (Some x)) (waits_after ts n n met u.waits) a)
-    present_keeps b a x seen not_done no_rows at-k right = one_key b a (note_of n k (Some x)) not_done no_rows at-k right (λ ns h ser f. go ns h ser f (made_by n x.1) refl)
+    present_keeps b a x seen not_done no_rows at_k right = one_key b a (note_of n k (Some x)) not_done no_rows at_k right (λ ns h ser f. go ns h ser f (made_by n x.1) refl)
       where
         at : (entry w.versions x.0 ≡ Some x.1) × ((x.1.key ≡ k) × ((visible ts t.name t.name x.1 ≡ true) × (has ≡ Some x.1.value)))
         at = one_seen x seen

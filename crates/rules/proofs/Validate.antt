@@ -13,7 +13,7 @@ use Rattle.rules.specs.Worlds.{World, with_store, with_slots}
 use Rattle.rules.specs.Slots as slots
 use Rattle.rules.specs.Slots.{with_phase, with_waits}
 use Rattle.seeing.specs.Phases.{phase_to_others, is_serializable, if_preparing}
-use Rattle.rules.specs.Validating.{tests_for, validated as validated-with}
+use Rattle.rules.specs.Validating.{tests_for, validated as validated_with}
 use Rattle.rules.specs.Runs as runs
 use Rattle.rules.specs.Runs.{Life, life, lived, Position}
 use Rattle.rules.specs.Law.{is_doomed}
@@ -269,9 +269,9 @@ module _ {K : Type 0} (V : Type 0) (order : K → K → Ordering) (total : Total
     }
 
     -- as the rule writes it
-    pub good_validated : (ws : List Bool) → ws ≡ marked_too ts W u.waits → Good V order total (record { world = with_store w (with_slots w.store (slots.change n (validated-with t.end ws) ts)); history = (n, runs.Validated) ∷ p.history })
+    pub good_validated : (ws : List Bool) → ws ≡ marked_too ts W u.waits → Good V order total (record { world = with_store w (with_slots w.store (slots.change n (validated_with t.end ws) ts)); history = (n, runs.Validated) ∷ p.history })
     good_validated ws e = (
       s',
       subst (λ us. Inv V order total (record { world = with_store w (with_slots w.store us); history = (n, runs.Validated) ∷ p.history }) s')
-          (change_found n (passes_on ts t.end W) (validated-with t.end ws) ts u found (ap (λ ws. validated-with t.end ws u) (sym e))) inv_validated,
+          (change_found n (passes_on ts t.end W) (validated_with t.end ws) ts u found (ap (λ ws. validated_with t.end ws u) (sym e))) inv_validated,
     )

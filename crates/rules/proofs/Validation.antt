@@ -18,7 +18,7 @@ use Rattle.seeing.specs.Changing.{names, own_work}
 use Rattle.rules.specs.Validating.{Test, passes, tests_of, notes_of, tests_for}
 use Rattle.rules.specs.Runs.{Position}
 use Rattle.serial.specs.Lists.{In, All, Each, change}
-use Rattle.serial.specs.Machine.{Game, Transaction, State, preparing, pending, Pending, Leads, direct, through, touched, covered, below, view, Told, May-pass, In-turn, Step, validate, passed}
+use Rattle.serial.specs.Machine.{Game, Transaction, State, preparing, pending, Pending, Leads, direct, through, touched, covered, below, view, Told, MayPass, InTurn, Step, validate, passed}
 use Rattle.serial.proofs.Lists.{All_at, In_keep, In_right}
 use Rattle.serial.proofs.Views.{told_same, play_untouched}
 use Rattle.serial.proofs.Waits.{leads_more}
@@ -62,19 +62,19 @@ module _ (G : Game) where
           let z : x.end < t.end = All_at (λ u. u.end < t.end) x l i r.0 in omega arith
 
   -- where the same versions of the key are shown at two times, it holds the same at both
-  module _ (vs : List (Entry (Ver G))) (l : List (Transaction G)) (R Q : ℕ) (at-R : Shows G vs l R) (at-Q : Shows G vs l Q) (k : G.Key) where
+  module _ (vs : List (Entry (Ver G))) (l : List (Transaction G)) (R Q : ℕ) (at_R : Shows G vs l R) (at_Q : Shows G vs l Q) (k : G.Key) where
     pub both_shown : (p : ℕ) (v : Ver G) → At G vs p v → v.key ≡ k → shown G l R v ≡ true → shown G l Q v ≡ true → content (latest G (upto G R l) k) ≡ content (latest G (upto G Q l) k)
     both_shown p v a e r q =
-        ap (λ k. content (latest G (upto G R l) k)) (sym e) ∙ ap content (at-R.sound p v a r).1.1 ∙ sym (ap content (at-Q.sound p v a q).1.1) ∙ ap (λ k. content (latest G (upto G Q l) k)) e
+        ap (λ k. content (latest G (upto G R l) k)) (sym e) ∙ ap content (at_R.sound p v a r).1.1 ∙ sym (ap content (at_Q.sound p v a q).1.1) ∙ ap (λ k. content (latest G (upto G Q l) k)) e
 
     pub same_shown : ((p : ℕ) (v : Ver G) → At G vs p v → v.key ≡ k → shown G l R v ≡ shown G l Q v) → content (latest G (upto G R l) k) ≡ content (latest G (upto G Q l) k)
     same_shown h = go (latest G (upto G R l) k) (latest G (upto G Q l) k) refl refl
       where
         by_R : (b : ℕ) (x : G.Value) → latest G (upto G R l) k ≡ Some (b, Some x) → content (latest G (upto G R l) k) ≡ content (latest G (upto G Q l) k)
-        by_R b x e = let z = at-R.complete k b x e in both_shown z.0 z.1.0 z.1.1.0 z.1.1.1.0 z.1.1.1.1 (sym (h z.0 z.1.0 z.1.1.0 z.1.1.1.0) ∙ z.1.1.1.1)
+        by_R b x e = let z = at_R.complete k b x e in both_shown z.0 z.1.0 z.1.1.0 z.1.1.1.0 z.1.1.1.1 (sym (h z.0 z.1.0 z.1.1.0 z.1.1.1.0) ∙ z.1.1.1.1)
 
         by_Q : (b : ℕ) (x : G.Value) → latest G (upto G Q l) k ≡ Some (b, Some x) → content (latest G (upto G R l) k) ≡ content (latest G (upto G Q l) k)
-        by_Q b x e = let z = at-Q.complete k b x e in both_shown z.0 z.1.0 z.1.1.0 z.1.1.1.0 (h z.0 z.1.0 z.1.1.0 z.1.1.1.0 ∙ z.1.1.1.1) z.1.1.1.1
+        by_Q b x e = let z = at_Q.complete k b x e in both_shown z.0 z.1.0 z.1.1.0 z.1.1.1.0 (h z.0 z.1.0 z.1.1.0 z.1.1.1.0 ∙ z.1.1.1.1) z.1.1.1.1
 
         go : (o o' : Option (ℕ × Option G.Value)) → latest G (upto G R l) k ≡ o → latest G (upto G Q l) k ≡ o' → content (latest G (upto G R l) k) ≡ content (latest G (upto G Q l) k)
         go (Some (b, Some x)) o' e e' = by_R b x e
@@ -200,7 +200,7 @@ module _ {K : Type 0} (V : Type 0) (order : K → K → Ordering) (total : Total
   upto_n : upto G n l ≡ below G n l
   upto_n = upto_below G n l (All_at (λ t. All (λ x. x.end ≡ t.name → ⊥) l) t l i (ordered G s inv.way).once')
 
-  turn : (k : K) → touched G t.moves k ≡ true → In-turn G n before k
+  turn : (k : K) → touched G t.moves k ≡ true → InTurn G n before k
   turn = (stands_each G (Turns G) t before l behind.1 (ordered G s inv.way).turns').0
 
   guarded_same : t.ser ≡ true → (k : K) → touched G t.moves k ≡ false → Guarded V order total w.notes vs l n k → content (latest G (upto G e l) k) ≡ content (latest G (upto G n l) k)
@@ -236,7 +236,7 @@ module _ {K : Type 0} (V : Type 0) (order : K → K → Ordering) (total : Total
 
   late : t.ser ≡ true → (x : Transaction G) → In x before → pending x.stage ≡ true → (k : K) → touched G x.moves k ≡ true → touched G t.moves k ≡ false → n ≤ x.end →
       Guarded V order total w.notes vs l n k → Leads G before (W ++ t.waits) x.name
-  late ser x j pend k touch free le (inl (lower, (upper, (inside-range, h)))) = go mark
+  late ser x j pend k touch free le (inl (lower, (upper, (inside_range, h)))) = go mark
     where
       mark : (q : ℕ) × ((v : Ver G) × (At G vs q v × ((v.key ≡ k) × Names G x.name v)))
       mark = inv.shelf.marked' x (from_before x j) pend k touch
@@ -251,10 +251,10 @@ module _ {K : Type 0} (V : Type 0) (order : K → K → Ordering) (total : Total
           held = wait_of G ts s inv.way inv.roll vs inv.shelf n e q v a none.0 none.1 x (from_before x j) pend (let z = below_e x j in omega arith) (not_t x j) (ap (touched G x.moves) same ∙ touch) named
 
           by : Held G ts s inv.way inv.roll vs inv.shelf n e v x → Leads G before (W ++ t.waits) x.name
-          by (y, (at, (lo, (apart, (waits, inl eq))))) = direct (In_left x.name W t.waits (subst (λ m. In m W) eq ((range_at ser lower upper k inside-range h free q v a same).1 y.name waits)))
+          by (y, (at, (lo, (apart, (waits, inl eq))))) = direct (In_left x.name W t.waits (subst (λ m. In m W) eq ((range_at ser lower upper k inside_range h free q v a same).1 y.name waits)))
           by (y, (at, (lo, (apart, (waits, inr leads))))) =
               let k' = into_before y at lo apart in
-              through y k' (In_left y.name W t.waits ((range_at ser lower upper k inside-range h free q v a same).1 y.name waits)) (inside y.waits x.name (closed y k') leads)
+              through y k' (In_left y.name W t.waits ((range_at ser lower upper k inside_range h free q v a same).1 y.name waits)) (inside y.waits x.name (closed y k') leads)
   late ser x j pend k touch free le (inr (q, (v, (h, (a, (same, sh)))))) =
       let r = (shows e (omega (arith, longer))).sound q v a (version_at ser k q v h a same free) in
       let bound : x.end ≤ r.0 = latest_bound G before x k r.0 (Some v.value)
@@ -284,7 +284,7 @@ module _ {K : Type 0} (V : Type 0) (order : K → K → Ordering) (total : Total
   known : (y : ℕ) → In y W → Pending G before y
   known y j = ⊎_elim (λ ser. from_tests ser y j) (λ snap. absurd (subst (In y) (untested snap) j)) (cases_Bool t.ser)
 
-  may : May-pass G W t before
+  may : MayPass G W t before
   may = record {
     was = prep;
     known = All_in (Pending G before) W known;
@@ -299,4 +299,4 @@ module _ {K : Type 0} (V : Type 0) (order : K → K → Ordering) (total : Total
       subst (Pending G l) z.1.1.0 (Any_of G l z.0 (from_before z.0 z.1.0) z.1.1.1)
 
   pub validate_step : Step G s (record { clock = s.clock; active = s.active; line = change (passed G n W) l })
-  validate_step = validate n W (each_named G (May-pass G W) t before l (distinct G s inv.way).line_apart behind.1 may)
+  validate_step = validate n W (each_named G (MayPass G W) t before l (distinct G s inv.way).line_apart behind.1 may)

@@ -25,7 +25,7 @@ use Rattle.rules.specs.Reaching.{Met, first_seen, waits_after}
 use Rattle.rules.specs.Book.{by_value, Exchange}
 use Rattle.rules.specs.Runs.{Position}
 use Rattle.serial.specs.Lists.{In}
-use Rattle.serial.specs.Machine.{Game, Transaction, State, view, below, touched, pending, Leads, moved, In-turn, May-move, given}
+use Rattle.serial.specs.Machine.{Game, Transaction, State, view, below, touched, pending, Leads, moved, InTurn, MayMove, given}
 use Rattle.serial.proofs.Views.{play_untouched}
 use Rattle.rules.proofs.Game.{game, same_true, same_self, same_from, looks, puts, changes, RightCall}
 use Rattle.rules.proofs.Times.{time, shown, last, Names}
@@ -95,7 +95,7 @@ module _ {K : Type 0} (V : Type 0) (order : K → K → Ordering) (total : Total
 
     module _ (b : BookCall K V) (o : Option V) (hit : puts order b k ≡ Some o) (miss : (j : K) → (j ≡ k → ⊥) → puts order b j ≡ None) (cov : (j : K) → looks order b j ≡ true → j ≡ k)
         (right : RightCall order b (Ok answer.Done) [] (telling order total p.world k k met m inv.listed s inv.way inv.roll inv.shelf t i))
-        (turn : In-turn G t.name s.line k) (alone : (x : Transaction G) → In x s.active → touched G x.moves k ≡ true → x.name ≡ t.name) where
+        (turn : InTurn G t.name s.line k) (alone : (x : Transaction G) → In x s.active → touched G x.moves k ≡ true → x.name ≡ t.name) where
       -- a write done, from what it makes of the table
       good : (vs' : List (Entry (Version K V))) (ix : Index K) → length vs' ≡ length vs → ix.capacity ≡ p.world.index.capacity → Listed order vs' ix.pairs →
           Image G s t.name k vs vs' → ((R q : ℕ) (v : Version K V) → t.name ≤ R → entry vs' q ≡ Some v → v.key ≡ k → shown G s.line R v ≡ true → v.end ≡ till.Owner t.name) →
@@ -114,9 +114,9 @@ module _ {K : Type 0} (V : Type 0) (order : K → K → Ordering) (total : Total
           only : (j : K) → given (puts order b j) ≡ true → j ≡ k
           only j e = cov j (changes order total (deed b) j e)
 
-          may : May-move G s.active s.line (deed b) W t
+          may : MayMove G s.active s.line (deed b) W t
           may = record {
-            turn = λ j e. subst (In-turn G t.name s.line) (sym (only j e)) turn;
+            turn = λ j e. subst (InTurn G t.name s.line) (sym (only j e)) turn;
             alone = λ j e. All_in _ s.active (λ x l f. alone x l (subst (λ y. touched G x.moves y ≡ true) (only j e) f));
             answer = right;
             known = waits_pending order total p.world k k met m inv.listed s inv.way inv.roll inv.shelf t i;
@@ -184,18 +184,18 @@ module _ {K : Type 0} (V : Type 0) (order : K → K → Ordering) (total : Total
               (λ z. closing_insert G vs ts s inv.way inv.roll inv.shelf t i k none_look old_at R r v le (sym (entry_set_other vs q r (filled (new_version t.name k x)) z) ∙ a) e f) (cases_eq r q)
 
     -- The version seen is another's, and is to be ended.
-    module _ (r : ℕ) (v : Version K V) (met-it : In (r, v) met) (vis : visible ts t.name t.name v ≡ true) where
+    module _ (r : ℕ) (v : Version K V) (met_it : In (r, v) met) (vis : visible ts t.name t.name v ≡ true) where
       a : entry vs r ≡ Some v
-      a = (at_key r v met-it).0
+      a = (at_key r v met_it).0
 
       e : v.key ≡ k
-      e = (at_key r v met-it).1
+      e = (at_key r v met_it).1
 
       look : Look G vs ts s inv.way inv.roll inv.shelf t i v
-      look = (seen_some order total p.world k k met m inv.listed s inv.way inv.roll inv.shelf t i r v met-it vis).0
+      look = (seen_some order total p.world k k met m inv.listed s inv.way inv.roll inv.shelf t i r v met_it vis).0
 
       know_some : know k ≡ Some v.value
-      know_some = ap know (sym e) ∙ (seen_some order total p.world k k met m inv.listed s inv.way inv.roll inv.shelf t i r v met-it vis).1
+      know_some = ap know (sym e) ∙ (seen_some order total p.world k k met m inv.listed s inv.way inv.roll inv.shelf t i r v met_it vis).1
 
       abbrev closed : Version K V
       closed = with_end (till.Owner t.name) v
@@ -213,7 +213,7 @@ module _ {K : Type 0} (V : Type 0) (order : K → K → Ordering) (total : Total
         free_key : touched G t.moves k ≡ false
         free_key = ap (touched G t.moves) (sym e) ∙ others.1.0
 
-        turn' : In-turn G t.name s.line k
+        turn' : InTurn G t.name s.line k
         turn' = turn_one G vs ts s inv.way inv.roll inv.shelf t i k r v a e free_key others.1.1 writable
 
         alone' : (y : Transaction G) → In y s.active → touched G y.moves k ≡ true → y.name ≡ t.name

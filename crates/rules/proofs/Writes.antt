@@ -122,7 +122,7 @@ module _ (G : Game) where
         let r = In_changed (moved G n m W) u' s.active j in
         (sym r.1.1 ∙ ap (moved G n m W) (unique G r.0 t s.active (distinct G s way).active_apart r.1.0 i (ap (λ v. v.name) r.1.1 ∙ e ∙ sym named)), ap (λ b. cond b (m ∷ t.moves) t.moves) (eq-eqb t.name n named))
 
-    module _ (there-n : there n ≡ true) (alone : (u : Transaction G) → In u s.active → touched G u.moves k ≡ true → u.name ≡ n)
+    module _ (there_n : there n ≡ true) (alone : (u : Transaction G) → In u s.active → touched G u.moves k ≡ true → u.name ≡ n)
         (closing : (R p : ℕ) (v' : Ver G) → n ≤ R → At G vs' p v' → v'.key ≡ k → shown G s.line R v' ≡ true → v'.end ≡ till.Owner n)
         (mine : Own G vs' (moved G n m W t)) (mark : (p : ℕ) × ((v : Ver G) × (At G vs' p v × ((v.key ≡ k) × Names G n v))))
         (miss : (j : G.Key) → (j ≡ k → ⊥) → G.effect m j ≡ None) (dec : (a b : G.Key) → (a ≡ b) ⊎ (a ≡ b → ⊥)) where
@@ -130,7 +130,7 @@ module _ (G : Game) where
       begins' p v' a = go (image.back p v' a)
         where
           go : Fresh n k v' ⊎ ((v : Ver G) × (At G vs p v × Changed s n k v v')) → Begins G wrote there v' v'.begin
-          go (inl f) = subst (Begins G wrote there v') (sym f.begin) (there-n, λ u' j e. ap (touched G u'.moves) f.key ∙ mover_touched u' j e)
+          go (inl f) = subst (Begins G wrote there v') (sym f.begin) (there_n, λ u' j e. ap (touched G u'.moves) f.key ∙ mover_touched u' j e)
           go (inr z) = subst (Begins G wrote there v') (sym z.1.1.begin) (begins_write z.0 v' z.1.1 z.0.begin (h.begins p z.0 z.1.0) refl)
 
       ends' : (p : ℕ) (v' : Ver G) → At G vs' p v' → Ends G wrote there v' v'.end
@@ -140,7 +140,7 @@ module _ (G : Game) where
           go (inl f) = subst (Ends G wrote there v') (sym f.end) tt
           go (inr z) = ⊎_elim (λ e. subst (Ends G wrote there v') (sym e) (ends_write z.0 v' z.1.1 z.0.end (h.ends p z.0 z.1.0)))
               (λ y. subst (Ends G wrote there v') (sym y.0) (
-                there-n,
+                there_n,
                 λ u' j e. (
                   ap (touched G u'.moves) (z.1.1.key ∙ y.1.0) ∙ mover_touched u' j e,
                   ⊎_elim (λ b. inl (z.1.1.begin ∙ b)) (λ b. inr (begun_write n z.0 v' z.1.1 b)) y.1.1.1.1,

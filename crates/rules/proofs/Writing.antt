@@ -109,14 +109,14 @@ module _ {K : Type 0} (V : Type 0) (order : K → K → Ordering) (total : Total
     ]
 
     -- update, with a value, and delete, with none: what is left to show is what a change of one's own version makes, and of another's
-    module _ (b : BookCall K V) (new : Option V) (at-k : (j : K) → looks order b j ≡ same order k j)
+    module _ (b : BookCall K V) (new : Option V) (at_k : (j : K) → looks order b j ≡ same order k j)
         (right : (f : K → Option V) → f k ≡ None → RightCall order b (Ok answer.Absent) [] f)
         (own : (r : ℕ) (v : Version K V) → In (r, v) met → visible ts t.name t.name v ≡ true → made_by t.name v ≡ true →
         Fine t.name b (done V order total p s inv k met m t i u found (set vs r (filled (altered t.name new v))) w.index))
         (other : (r : ℕ) (v : Version K V) → In (r, v) met → visible ts t.name t.name v ≡ true → made_by t.name v ≡ false → not_writable ts v.end ≡ false →
         Comes (Fine t.name b) (adding_if order c.version t.name k new (vs, w.index) >>= (λ z. conclude c (with_added w (set z.0 r (filled (with_end (till.Owner t.name) v)), z.1)) t.name u None waits answer.Done))) where
       changed : (o : Option (Met K V)) → first_seen ts t.name met ≡ o → Comes (Fine t.name b) (altering new o)
-      changed None e = absent_keeps V order total p s inv c ok t.name k u found t i refl met m b at-k (right _ (none_seen V order total p s inv c ok t.name k u found t i refl met m e))
+      changed None e = absent_keeps V order total p s inv c ok t.name k u found t i refl met m b at_k (right _ (none_seen V order total p s inv c ok t.name k u found t i refl met m e))
       changed (Some y) e =
           let f = first_some (λ y. visible ts t.name t.name y.1) met y e in
           either _ (λ mine. finished b _ _ (own y.0 y.1 f.0 f.1 mine)) (λ foreign. either _ (λ _. conflicts b) (λ writable. other y.0 y.1 f.0 f.1 foreign writable))

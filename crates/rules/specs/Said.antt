@@ -21,7 +21,7 @@ number (Full transaction fault) = 12
 number Transactions = 13
 number LastStamp = 14
 number Validation = 15
-number (Waiting waited-on) = 16
+number (Waiting waited_on) = 16
 
 -- what a refusal carries besides its number: the capacity of a full index, or how many are waited on
 abbrev pub carried : Refusal → List ℕ
@@ -40,7 +40,7 @@ carried (Full transaction fault) = fault.capacity ∷ []
 carried Transactions = []
 carried LastStamp = []
 carried Validation = []
-carried (Waiting waited-on) = waited-on ∷ []
+carried (Waiting waited_on) = waited_on ∷ []
 
 -- what an answer says: a word, a row's value, or numbers
 pub data Said (V : Type 0) : Type 0 where

@@ -32,8 +32,8 @@ module _ {K V : Type 0} where
   commit_rule w n = do
     t ← sound_in w n (λ p. is_some (if_validated p))
     e ← some_or refusal.Phase (if_validated t.phase)
-    let waited-on = count (λ b. b) t.waits
-    refuse_if (nat_lt 0 waited-on) (refusal.Waiting waited-on)
+    let waited_on = count (λ b. b) t.waits
+    refuse_if (nat_lt 0 waited_on) (refusal.Waiting waited_on)
     Ok (with_store w (one_more_commit (with_slots w.store (release n (change n (with_phase (Committed e)) w.store.slots)))), Ok answer.Done)
 
   abbrev pub abort_rule : World K V → ℕ → Outcome K V

@@ -47,11 +47,11 @@ module _ {K V : Type 0} (s : Store) (vs : List (Entry (Version K V))) (ns : List
     pub commit_phase : None ≡ if_validated t.phase → Commits s (Err refusal.Phase)
     commit_phase e = refused (λ w. commit_rule w n) _ _ (λ rows. go_on _ sound_here ∙ give_up _ (lack _ (sym e)))
 
-    module _ (stamp : ℕ) (e : Some stamp ≡ if_validated t.phase) (waited-on : ℕ) (is : waited-on ≡ count (λ b. b) t.waits) where
-      pub commit_waits : true ≡ ltb 0 waited-on → Commits s (Err (refusal.Waiting waited-on))
+    module _ (stamp : ℕ) (e : Some stamp ≡ if_validated t.phase) (waited_on : ℕ) (is : waited_on ≡ count (λ b. b) t.waits) where
+      pub commit_waits : true ≡ ltb 0 waited_on → Commits s (Err (refusal.Waiting waited_on))
       commit_waits l = refused (λ w. commit_rule w n) _ _ (λ rows. go_on _ sound_here ∙ go_on _ (have _ (sym e)) ∙ stop _ _ _ (ap (ltb 0) (sym is) ∙ sym l) ∙ ap {B = Outcome K V} (λ (m : ℕ). Err (refusal.Waiting m)) (sym is))
 
-      pub committed : false ≡ ltb 0 waited-on → (s' : Store) → s' ≡ one_more_commit (with_slots s (release n (set s.slots slot (Some (with_phase (Committed stamp) t))))) → Commits s' (Ok answer.Done)
+      pub committed : false ≡ ltb 0 waited_on → (s' : Store) → s' ≡ one_more_commit (with_slots s (release n (set s.slots slot (Some (with_phase (Committed stamp) t))))) → Commits s' (Ok answer.Done)
       committed l s' es =
           comes (λ w. commit_rule w n) _ _ _
           (λ rows. go_on _ sound_here ∙ go_on _ (have _ (sym e)) ∙ pass _ _ _ (ap (ltb 0) (sym is) ∙ sym l)
