@@ -1,4 +1,6 @@
 // Runs the scripts of examples/ (its folder data/ has copies) and says of each whether it prints what it should.
+#![tactic(auto)]
+
 use script::run_script;
 use std::fs;
 

@@ -1,4 +1,6 @@
 // Reads a script from standard input and prints what the store answers.
+#![tactic(auto)]
+
 use script::run_script;
 use std::io::Read;
 
