@@ -1,5 +1,5 @@
 // Lengths of tables and the capacity of the index.
-use crate::script::{BEGIN, Step, play_both};
+use crate::script::{BEGIN, Step, play_both, play_numbered};
 use keys::{CardNumber, Score};
 use ordered::CardsInOrder;
 use rules::{BookCall, Call};
@@ -38,7 +38,7 @@ fn openings(rt: HostRuntime) -> Result<(), Fail> {
             Step::Tell(Call::Open(18446744073709551615), late),
             Step::Tell(Call::Open(0), told),
         ];
-        play_both(&rt, rt.alloc(), room, &script).note(i)?;
+        play_numbered(&rt, rt.alloc(), room, &script, i)?;
     }
     Ok(())
 }

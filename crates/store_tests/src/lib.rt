@@ -1,3 +1,5 @@
+#![tactic(auto)]
+
 // Tests of the store's calls, over both indexes: lengths, each refusal at its place in their order, disturbed tables.
 #[cfg(test)]
 mod disturbed;

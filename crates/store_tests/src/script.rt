@@ -6,6 +6,7 @@ use ordered::CardsInOrder;
 use rules::{Answer, BookCall, Call, Entry, Refusal};
 use seeing::{Begin, End, Level, Version};
 use std::alloc::Global;
+use std::fmt;
 use std::process::Abort;
 use std::test::Fail;
 use trying::{Desk, Room, Said, Trouble, same_answer};
@@ -76,14 +77,23 @@ const SET_UP: [Call<CardNumber, Score>; 8] = [
     Call::Finish(1),
 ];
 
-fn set_up<I: Index<Key = CardNumber> + Drop>(
-    rt: &impl Abort,
-    desk: &mut Desk<I>,
-) -> Result<(), Fail> {
-    for call in SET_UP.iter() {
-        assert_eq!(rt; desk.number(*call), 0);
+// What a failed step names: the script among those of its test, from 0, and the line in it.
+#[derive(Clone, Copy)]
+struct Spot {
+    script: usize,
+    line: usize,
+}
+
+impl fmt::Display for Spot {
+    fn fmt<W: fmt::Write>(&self, f: &mut fmt::Formatter<W>) -> fmt::Result {
+        write!(f, "script {}, line {}", self.script, self.line)
     }
-    Ok(())
+}
+
+fn set_up<I: Index<Key = CardNumber> + Drop>(rt: &impl Abort, desk: &mut Desk<I>, spot: Spot) {
+    for call in SET_UP.iter() {
+        assert_eq!(rt; desk.number(*call), 0, "{spot}");
+    }
 }
 
 fn tell_often<I: Index<Key = CardNumber> + Drop>(
@@ -92,11 +102,11 @@ fn tell_often<I: Index<Key = CardNumber> + Drop>(
     times: u8,
     call: Call<CardNumber, Score>,
     told: u8,
-) -> Result<(), Fail> {
+    spot: Spot,
+) {
     for _ in 0..times {
-        assert_eq!(rt; desk.number(call), told);
+        assert_eq!(rt; desk.number(call), told, "{spot}");
     }
-    Ok(())
 }
 
 // A full index says whose call it was and how many pairs fit; one that waits says on how many.
@@ -173,26 +183,22 @@ const OTHERS: [Call<CardNumber, Score>; 13] = [
     Call::Tally,
 ];
 
-fn refuse_all<I: Index<Key = CardNumber> + Drop>(
-    rt: &impl Abort,
-    desk: &mut Desk<I>,
-) -> Result<(), Fail> {
+fn refuse_all<I: Index<Key = CardNumber> + Drop>(rt: &impl Abort, desk: &mut Desk<I>, spot: Spot) {
     for call in OTHERS.iter() {
-        assert_eq!(rt; desk.number(*call), 1);
+        assert_eq!(rt; desk.number(*call), 1, "{spot}");
     }
-    Ok(())
 }
 
 fn fill<I: Index<Key = CardNumber> + Drop>(
     rt: &impl Abort,
     desk: &mut Desk<I>,
     number: u32,
-) -> Result<(), Fail> {
+    spot: Spot,
+) {
     for key in 0..number {
         let call = Call::Book(1, BookCall::Insert(CardNumber(key), Score(1)));
-        assert_eq!(rt; desk.number(call), 0);
+        assert_eq!(rt; desk.number(call), 0, "{spot}");
     }
-    Ok(())
 }
 
 fn says(said: Said, answer: Answer<Score>) -> bool {
@@ -222,52 +228,75 @@ fn take<I: Index<Key = CardNumber> + Drop>(
     rt: &impl Abort,
     desk: &mut Desk<I>,
     step: Step,
+    spot: Spot,
 ) -> Result<(), Fail> {
     match step {
-        Step::Fresh => set_up(rt, desk),
+        Step::Fresh => set_up(rt, desk, spot),
         Step::Says(call, answer) => {
-            assert!(rt; says(desk.perform(call), answer));
-            Ok(())
-        },
+            assert!(rt; says(desk.perform(call), answer), "{spot}");
+        }
         Step::Tell(call, told) => {
-            assert_eq!(rt; desk.number(call), told);
-            Ok(())
-        },
-        Step::Often(times, call, told) => tell_often(rt, desk, times, call, told),
+            assert_eq!(rt; desk.number(call), told, "{spot}");
+        }
+        Step::Often(times, call, told) => tell_often(rt, desk, times, call, told, spot),
         Step::Carry(call, name, number) => {
-            assert!(rt; carries(desk.perform(call), name, number));
-            Ok(())
-        },
-        Step::NoneAllowed => refuse_all(rt, desk),
-        Step::Fill(number) => fill(rt, desk, number),
-        _ => alter(desk, step),
+            assert!(rt; carries(desk.perform(call), name, number), "{spot}");
+        }
+        Step::NoneAllowed => refuse_all(rt, desk, spot),
+        Step::Fill(number) => fill(rt, desk, number, spot),
+        _ => alter(desk, step)?,
     }
+    Ok(())
 }
 
 // Plays a script line by line.
 fn play<I: Index<Key = CardNumber> + Drop>(
     rt: &impl Abort,
     desk: &mut Desk<I>,
-    script: &[Step],
+    lines: &[Step],
+    script: usize,
 ) -> Result<(), Fail> {
-    for (line, step) in script.iter().enumerate() {
-        take(rt, desk, *step).note(line)?;
+    for (line, step) in lines.iter().enumerate() {
+        take(rt, desk, *step, Spot { script, line })?;
     }
     Ok(())
 }
 
-fn play_in_order(rt: &impl Abort, heap: Global, room: Room, script: &[Step]) -> Result<(), Fail> {
+fn play_in_order(
+    rt: &impl Abort,
+    heap: Global,
+    room: Room,
+    lines: &[Step],
+    script: usize,
+) -> Result<(), Fail> {
     let index = CardsInOrder::new(heap, room.pairs)?;
-    play(rt, &mut Desk::new(heap, index, room)?, script)
+    play(rt, &mut Desk::new(heap, index, room)?, lines, script)
 }
 
-fn play_in_chains(rt: &impl Abort, heap: Global, room: Room, script: &[Step]) -> Result<(), Fail> {
+fn play_in_chains(
+    rt: &impl Abort,
+    heap: Global,
+    room: Room,
+    lines: &[Step],
+    script: usize,
+) -> Result<(), Fail> {
     let index = CardChains::new(heap, room.pairs)?;
-    play(rt, &mut Desk::new(heap, index, room)?, script)
+    play(rt, &mut Desk::new(heap, index, room)?, lines, script)
+}
+
+/// Plays a script over both indexes, one of several in a test, by its number there.
+pub fn play_numbered(
+    rt: &impl Abort,
+    heap: Global,
+    room: Room,
+    lines: &[Step],
+    script: usize,
+) -> Result<(), Fail> {
+    play_in_order(rt, heap, room, lines, script)?;
+    play_in_chains(rt, heap, room, lines, script)
 }
 
 /// Plays a script over both indexes.
 pub fn play_both(rt: &impl Abort, heap: Global, room: Room, script: &[Step]) -> Result<(), Fail> {
-    play_in_order(rt, heap, room, script)?;
-    play_in_chains(rt, heap, room, script)
+    play_numbered(rt, heap, room, script, 0)
 }
