@@ -1,3 +1,5 @@
+#![tactic(auto)]
+
 // Random runs of the store beside a plain book.
 #[cfg(test)]
 mod book;

@@ -4,7 +4,7 @@ use keys::{CardNumber, Score};
 use rules::{Answer, BookCall, Call};
 use seeing::Level;
 use std::alloc::{AllocError, Global};
-use std::test::*;
+use std::process::Abort;
 use trying::same_answer;
 
 /// A call on rows that was not refused.
@@ -110,28 +110,27 @@ impl Record {
 
     /// One after the other: each serializable transaction got the answers of the book on which the commits before it
     /// were played. The book at the end.
-    pub fn check_serial(&self) -> Result<Book, Fail> {
+    pub fn check_serial(&self, rt: &impl Abort) -> Book {
         let mut book = Book::new();
         for turn in self.turns.iter() {
             if turn.committed {
                 let wrong = self.play(&mut book, turn.name);
                 if let Level::Serializable = turn.level {
-                    assert_eq!(wrong, 0);
+                    assert_eq!(rt; wrong, 0);
                 }
             }
         }
-        Ok(book)
+        book
     }
 
     /// One moment: each transaction got the answers of the book on which the commits below its begin stamp were played.
-    pub fn check_moments(&self) -> Result<(), Fail> {
+    pub fn check_moments(&self, rt: &impl Abort) {
         for turn in self.turns.iter() {
             if turn.committed {
                 let mut book = self.book_before(turn.name);
-                assert_eq!(self.play(&mut book, turn.name), 0);
+                assert_eq!(rt; self.play(&mut book, turn.name), 0);
             }
         }
-        Ok(())
     }
 }
 

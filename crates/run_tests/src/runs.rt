@@ -9,7 +9,8 @@ use ordered::CardsInOrder;
 use rules::{Answer, BookCall, Call};
 use seeing::Level;
 use std::alloc::{AllocError, Global};
-use std::test::*;
+use std::process::Abort;
+use std::test::Fail;
 use trying::{Desk, Room, Said, number_of, same_answer};
 
 const PLAYERS: usize = 6;
@@ -104,34 +105,39 @@ fn new_run(heap: Global, seed: u32, counts: Counts) -> Result<Run, AllocError> {
 
 impl Run {
     // Makes the call of both stores, which say the same.
-    fn perform(&mut self, call: Call<CardNumber, Score>) -> Result<Said, Fail> {
+    fn perform(&mut self, rt: &impl Abort, call: Call<CardNumber, Score>) -> Said {
         let said = self.ordered.perform(call);
         let other = self.chained.perform(call);
-        assert!(same_said(said, other));
-        Ok(said)
+        assert!(rt; same_said(said, other));
+        said
     }
 
-    fn told(&self, answer: Answer<Score>) -> Result<Told, Fail> {
+    fn told(&self, rt: &impl Abort, answer: Answer<Score>) -> Told {
         let rows = sum_of(&self.ordered.rows, answer);
-        assert_eq!(sum_of(&self.chained.rows, answer), rows);
-        Ok(Told { answer, rows })
+        assert_eq!(rt; sum_of(&self.chained.rows, answer), rows);
+        Told { answer, rows }
     }
 
     // A call of a player, recorded if it is answered.
-    fn play(&mut self, player: Player, call: Call<CardNumber, Score>) -> Result<Player, Fail> {
-        let said = self.perform(call)?;
+    fn play(
+        &mut self,
+        rt: &impl Abort,
+        player: Player,
+        call: Call<CardNumber, Score>,
+    ) -> Result<Player, AllocError> {
+        let said = self.perform(rt, call);
         self.counts.count(number_of(said));
         if let Ok(answer) = said {
-            let told = self.told(answer)?;
+            let told = self.told(rt, answer);
             self.record.add(player.level, call, told)?;
         }
         Ok(player.after(call, said))
     }
 
     // A drawn player makes the next call; now and then there is a sweep first.
-    fn step(&mut self) -> Result<(), Fail> {
+    fn step(&mut self, rt: &impl Abort) -> Result<(), AllocError> {
         if self.draws.below(40) == 0 {
-            let _ = self.perform(Call::Sweep)?;
+            let _ = self.perform(rt, Call::Sweep);
         }
         let seat = self.draws.below(6) as usize;
         let player = self.players[seat];
@@ -139,29 +145,29 @@ impl Run {
             return Ok(());
         }
         let call = player.next_call(&mut self.draws);
-        self.players[seat] = self.play(player, call)?;
+        self.players[seat] = self.play(rt, player, call)?;
         Ok(())
     }
 
     // Ends the transaction of a player, if there is one.
-    fn leave(&mut self, player: Player) -> Result<(), Fail> {
-        let _ = self.perform(Call::Abort(player.name))?;
-        let _ = self.perform(Call::Finish(player.name))?;
-        Ok(())
+    fn leave(&mut self, rt: &impl Abort, player: Player) {
+        let _ = self.perform(rt, Call::Abort(player.name));
+        let _ = self.perform(rt, Call::Finish(player.name));
     }
 
     // A run from an opening until all transactions are ended; it is disturbed before every tenth call or so.
-    fn play_all(&mut self, calls: u32, disturbed: bool) -> Result<(), Fail> {
-        assert_eq!(number_of(self.perform(Call::Open(0))?), 0);
+    fn play_all(&mut self, rt: &impl Abort, calls: u32, disturbed: bool) -> Result<(), AllocError> {
+        assert_eq!(rt; number_of(self.perform(rt, Call::Open(0))), 0);
         self.record.clear();
         self.players = [AWAY; PLAYERS];
         for _ in 0..calls {
             if disturbed && self.draws.below(10) == 0 {
                 self.disturb();
             }
-            self.step()?;
+            self.step(rt)?;
         }
-        self.leave_all()
+        self.leave_all(rt);
+        Ok(())
     }
 
     fn disturb(&mut self) {
@@ -170,52 +176,51 @@ impl Run {
         self.chained.disturb(trouble);
     }
 
-    fn leave_all(&mut self) -> Result<(), Fail> {
+    fn leave_all(&mut self, rt: &impl Abort) {
         for seat in 0..PLAYERS {
-            self.leave(self.players[seat])?;
+            self.leave(rt, self.players[seat]);
         }
-        Ok(())
     }
 
     // The law: the answers are the book's, and so are the rows at the end.
-    fn check_law(&mut self) -> Result<(), Fail> {
-        let book = self.record.check_serial()?;
-        self.record.check_moments()?;
-        self.check_rows(book)?;
-        self.check_tally()
+    fn check_law(&mut self, rt: &impl Abort) -> Result<(), Fail> {
+        let book = self.record.check_serial(rt);
+        self.record.check_moments(rt);
+        self.check_rows(rt, book)?;
+        self.check_tally(rt)
     }
 
     // The rows that a new transaction scans are the book's.
-    fn check_rows(&mut self, book: Book) -> Result<(), Fail> {
-        let Ok(Answer::Stamp(name)) = self.perform(Call::Begin(Level::Serializable))? else {
+    fn check_rows(&mut self, rt: &impl Abort, book: Book) -> Result<(), Fail> {
+        let Ok(Answer::Stamp(name)) = self.perform(rt, Call::Begin(Level::Serializable)) else {
             return Err(Fail::new("no transaction"));
         };
-        let Ok(answer) = self.perform(Call::Book(name, ALL_ROWS))? else {
+        let Ok(answer) = self.perform(rt, Call::Book(name, ALL_ROWS)) else {
             return Err(Fail::new("no rows"));
         };
-        let told = self.told(answer)?;
+        let told = self.told(rt, answer);
         let expected = book.tell(ALL_ROWS);
-        assert!(same_answer(told.answer, expected.answer));
-        assert_eq!(told.rows, expected.rows);
+        assert!(rt; same_answer(told.answer, expected.answer));
+        assert_eq!(rt; told.rows, expected.rows);
         Ok(())
     }
 
-    fn check_tally(&mut self) -> Result<(), Fail> {
-        let Ok(Answer::Tallied(commits, _)) = self.perform(Call::Tally)? else {
+    fn check_tally(&mut self, rt: &impl Abort) -> Result<(), Fail> {
+        let Ok(Answer::Tallied(commits, _)) = self.perform(rt, Call::Tally) else {
             return Err(Fail::new("no tally"));
         };
-        assert_eq!(commits, self.record.commits());
+        assert_eq!(rt; commits, self.record.commits());
         Ok(())
     }
 }
 
 // A run of 1,000 draws, after a disturbed one or not, and what was counted so far.
-fn play_one(run: &mut Run, disturbed: bool) -> Result<Counts, Fail> {
+fn play_one(rt: &impl Abort, run: &mut Run, disturbed: bool) -> Result<Counts, Fail> {
     if disturbed {
-        run.play_all(1000, true)?;
+        run.play_all(rt, 1000, true)?;
     }
-    run.play_all(1000, false)?;
-    run.check_law()?;
+    run.play_all(rt, 1000, false)?;
+    run.check_law(rt)?;
     let commits = run.counts.commits.saturating_add(run.record.commits());
     Ok(Counts {
         commits,
@@ -227,7 +232,7 @@ fn play_one(run: &mut Run, disturbed: bool) -> Result<Counts, Fail> {
 fn beside_the_book(rt: HostRuntime) -> Result<(), Fail> {
     let mut counts = NO_COUNTS;
     for seed in 1..101u32 {
-        counts = play_one(&mut new_run(rt.alloc(), seed, counts)?, false)?;
+        counts = play_one(&rt, &mut new_run(rt.alloc(), seed, counts)?, false)?;
     }
     assert!(rt; counts.are_many());
     Ok(())
@@ -238,7 +243,7 @@ fn beside_the_book(rt: HostRuntime) -> Result<(), Fail> {
 fn disturbed_first(rt: HostRuntime) -> Result<(), Fail> {
     let mut counts = NO_COUNTS;
     for seed in 101..141u32 {
-        counts = play_one(&mut new_run(rt.alloc(), seed, counts)?, true)?;
+        counts = play_one(&rt, &mut new_run(rt.alloc(), seed, counts)?, true)?;
     }
     assert!(rt; counts.commits > 1000 && counts.wrong > 1000);
     Ok(())
