@@ -1,3 +1,5 @@
+#![tactic(auto)]
+
 // Tests of whole scripts under both indexes: transcripts, single lines, short scripts and the longest one.
 #[cfg(test)]
 mod cases;

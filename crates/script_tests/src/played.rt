@@ -1,14 +1,22 @@
 // A script beside what it is to print, put together from the entries of transcripts.
 use script::run_script;
 use std::alloc::Global;
-use std::test::*;
+use std::process::Abort;
+use std::test::Fail;
 
-pub fn prints(heap: Global, script: &[u8], expected: &str) -> Result<(), Fail> {
+// The case is told where it fails.
+pub fn prints(
+    rt: &impl Abort,
+    heap: Global,
+    script: &[u8],
+    expected: &str,
+    case: &str,
+) -> Result<(), Fail> {
     let said = run_script(heap, script)?;
     for (line, wanted) in said.lines().zip(expected.lines()) {
-        assert_eq!(line, wanted);
+        assert_eq!(rt; line, wanted, "{case}");
     }
-    assert_eq!(said.as_str(), expected);
+    assert_eq!(rt; said.as_str(), expected, "{case}");
     Ok(())
 }
 
@@ -78,7 +86,13 @@ impl Played {
         Ok(())
     }
 
-    pub fn check(&self) -> Result<(), Fail> {
-        prints(self.heap, self.script.as_bytes(), self.expected.as_str())
+    pub fn check(&self, rt: &impl Abort, case: &str) -> Result<(), Fail> {
+        prints(
+            rt,
+            self.heap,
+            self.script.as_bytes(),
+            self.expected.as_str(),
+            case,
+        )
     }
 }

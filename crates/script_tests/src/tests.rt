@@ -11,17 +11,18 @@ use keys::{CardNumber, Score};
 use rules::{Call, Refusal};
 use script_text::say_reply;
 use std::alloc::{AllocError, Global};
-use std::test::*;
+use std::process::Abort;
+use std::test::Fail;
 
 // Each case under both indexes.
-fn all(heap: Global, before: &str, cases: &str, end: &str) -> Result<(), Fail> {
+fn all(rt: &impl Abort, heap: Global, before: &str, cases: &str, end: &str) -> Result<(), Fail> {
     for entries in cases.split(end) {
         for first in ["hash|", "ordered|"] {
             let mut played = Played::new(heap)?;
             played.play(first)?;
             played.play(before)?;
             played.play(entries)?;
-            played.check().note(entries)?;
+            played.check(rt, entries)?;
         }
     }
     Ok(())
@@ -29,36 +30,38 @@ fn all(heap: Global, before: &str, cases: &str, end: &str) -> Result<(), Fail> {
 
 #[test]
 fn transcripts(rt: HostRuntime) -> Result<(), Fail> {
-    all(rt.alloc(), "", CASES, "\n\n")?;
-    all(rt.alloc(), "", FULL, "\n\n")?;
-    all(rt.alloc(), SET_UP, POSITIONS, "\n\n")?;
-    all(rt.alloc(), SET_UP, REFUSALS, "\n\n")?;
-    all(rt.alloc(), "", LINES, "\n")
+    all(&rt, rt.alloc(), "", CASES, "\n\n")?;
+    all(&rt, rt.alloc(), "", FULL, "\n\n")?;
+    all(&rt, rt.alloc(), SET_UP, POSITIONS, "\n\n")?;
+    all(&rt, rt.alloc(), SET_UP, REFUSALS, "\n\n")?;
+    all(&rt, rt.alloc(), "", LINES, "\n")
 }
 
-fn short(heap: Global, case: &str) -> Result<(), Fail> {
+fn short(rt: &impl Abort, heap: Global, case: &str) -> Result<(), Fail> {
     let text = case.replace(heap, ';', "\n")?;
     let Some((script, lines)) = text.split_once('|') else {
         return Err(Fail::new("no answer"));
     };
     let expected = format!(in heap; "line,call,answer\n{lines}")?;
-    prints(heap, script.as_bytes(), expected.as_str()).note(case)
+    prints(rt, heap, script.as_bytes(), expected.as_str(), case)
 }
 
 #[test]
 fn scripts(rt: HostRuntime) -> Result<(), Fail> {
     for first in ["hash\n", "ordered\n"] {
         let script = format!(in rt.alloc(); "{first}{LISTING}")?;
-        prints(rt.alloc(), script.as_bytes(), LISTED)?;
+        prints(&rt, rt.alloc(), script.as_bytes(), LISTED, first)?;
     }
     for case in SHORT.lines() {
-        short(rt.alloc(), case)?;
+        short(&rt, rt.alloc(), case)?;
     }
     let odd = b"ordered\nbegin,ser\nread,1,\xff\n";
     prints(
+        &rt,
         rt.alloc(),
         odd,
         "line,call,answer\n2,begin,1\n3,fault,3,number\n",
+        "a byte above ASCII",
     )
 }
 
@@ -98,9 +101,15 @@ fn longest(rt: HostRuntime) -> Result<(), Fail> {
         let head = format!(in rt.alloc(); "{first}\nbegin,snap\ninsert,1,0,5\nread,1,")?;
         let script = padded(rt.alloc(), head.as_str(), 65536)?;
         let expected = "line,call,answer\n2,begin,1\n3,insert,done\n4,read,5\n";
-        prints(rt.alloc(), script.as_bytes(), expected)?;
+        prints(&rt, rt.alloc(), script.as_bytes(), expected, first)?;
         let longer = padded(rt.alloc(), head.as_str(), 65537)?;
-        prints(rt.alloc(), longer.as_bytes(), "0,fault,0,size\n")?;
+        prints(
+            &rt,
+            rt.alloc(),
+            longer.as_bytes(),
+            "0,fault,0,size\n",
+            first,
+        )?;
     }
     Ok(())
 }
