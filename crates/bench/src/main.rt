@@ -1,5 +1,7 @@
 // Asks a store many calls, over tables of three lengths and both indexes, and prints how many were answered and committed;
 // with the word `time`, also how many there were in a second.
+#![tactic(auto)]
+
 use chains::CardChains;
 use index::Index;
 use keys::{CardNumber, Score};
