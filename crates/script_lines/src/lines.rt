@@ -58,7 +58,7 @@ fn split_line<'a>(text: &'a [u8]) -> (&'a [u8], &'a [u8])
 pub fn cut_line<'a>(text: &'a [u8]) -> (&'a [u8], &'a [u8])
     ensures lines { 0 < length text.now → lines text.now ≡ result.0.now ∷ lines result.1.now }
     ensures shorter { 0 < length text.now → length result.1.now < length text.now }
-    ensures none { ((text.now ≡ [] → result.0.now ≡ [])) × ((text.now ≡ [] → result.1.now ≡ [])) }
+    ensures none { (text.now ≡ [] → result.0.now ≡ []) × (text.now ≡ [] → result.1.now ≡ []) }
 {
     split_line(text)
 }
