@@ -83,7 +83,8 @@ fn alter<I: Index, V: Copy>(
     key: I::Key,
     new: Option<V>,
 ) -> Result<Answer<V>, Refusal>
-    ensures { AnswersFromAround I.Key.Key.order version_hint note_hint (around store.old versions.old notes.old (meaning I.Key.Key.order (I.pairs index.old) (I.limit index.old))) (around store.new versions.new notes.new (meaning I.Key.Key.order (I.pairs index.new) (I.limit index.new))) transaction (call_of key new) result }
+    ensures answers { AnswersAround I.Key.Key.order (around store.old versions.old notes.old (meaning I.Key.Key.order (I.pairs index.old) (I.limit index.old))) (around store.new versions.new notes.new (meaning I.Key.Key.order (I.pairs index.new) (I.limit index.new))) transaction (call_of key new) result }
+    ensures picks { AnswersFromAround I.Key.Key.order version_hint note_hint (around store.old versions.old notes.old (meaning I.Key.Key.order (I.pairs index.old) (I.limit index.old))) (around store.new versions.new notes.new (meaning I.Key.Key.order (I.pairs index.new) (I.limit index.new))) transaction (call_of key new) result }
 {
     let (slot, t, found) = approach(store, versions, notes.len(), index, transaction, key, key)?;
     let waits = found.waits;
