@@ -6,7 +6,7 @@ use Rattle.rules.specs.declared.Refusal.{Refusal}
 use Rattle.rules.specs.Worlds.{World, Allowed}
 use Rattle.rules.specs.Rules.{rule}
 use Rattle.tables.proofs.Picking.{picks_allowed}
-use Rattle.calls.specs.Performing.{Desk, Hints, Hinted, hints_of, world_of, desk_of, found_from, after, chosen, performed, Does}
+use Rattle.calls.specs.Performing.{Desk, Hints, Hinted, hints_of, world_of, desk_of, found_from, after, chosen, performed, AnswersByHints}
 use Rattle.calls.specs.Promises.{Answers}
 
 module _ {K V : Type 0} where
@@ -16,7 +16,7 @@ module _ {K V : Type 0} where
 
 module _ {K V : Type 0} (order : K → K → Ordering) where
   -- the answer of a call and its hints make up all that it does
-  pub exactly : (d d' : Desk K V) (b a : Call K V) (r : Result (Answer V) Refusal) → b ≡ a → Does order d d' a r → Hinted d'.store (after d a) → performed order d b ≡ (d', r)
+  pub exactly : (d d' : Desk K V) (b a : Call K V) (r : Result (Answer V) Refusal) → b ≡ a → AnswersByHints order d d' a r → Hinted d'.store (after d a) → performed order d b ≡ (d', r)
   exactly d d' b a r e l h =
       ap (performed order d) e
       ∙ ap (λ (z : Hints). with_hints z (rule order (found_from z d) (world_of d) a)) (λ j. (sym h.0 j, sym h.1 j))

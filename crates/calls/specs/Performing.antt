@@ -109,9 +109,9 @@ module _ {K V : Type 0} (order : K → K → Ordering) where
 
   -- a call that finds the desk d leaves d' and answers r, with the free entries found from the hints that d' has;
   -- if those are the hints after it, this is what is performed, and so the call answers as the rules say for some choice
-  abbrev pub Does : Desk K V → Desk K V → Call K V → Result (Answer V) Refusal → Type 0
-  Does d d' a r = rule order (found_from (hints_of d'.store) d) (world_of d) a ≡ (world_of d', r)
+  abbrev pub AnswersByHints : Desk K V → Desk K V → Call K V → Result (Answer V) Refusal → Type 0
+  AnswersByHints d d' a r = rule order (found_from (hints_of d'.store) d) (world_of d) a ≡ (world_of d', r)
 
   -- the same for a call that has no row table: whatever rows there are, they stay
-  abbrev pub DoesAround : (List (Row K V) → Desk K V) → (List (Row K V) → Desk K V) → Call K V → Result (Answer V) Refusal → Type 0
-  DoesAround d d' a r = (rows : List (Row K V)) → Does (d rows) (d' rows) a r
+  abbrev pub AnswersByHintsAround : (List (Row K V) → Desk K V) → (List (Row K V) → Desk K V) → Call K V → Result (Answer V) Refusal → Type 0
+  AnswersByHintsAround d d' a r = (rows : List (Row K V)) → AnswersByHints (d rows) (d' rows) a r

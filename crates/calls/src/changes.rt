@@ -3,7 +3,7 @@ ghost use Rattle.std.specs.Prelude.{◌≡◌};
 ghost use Rattle.rules.specs.declared.Call.TheVariants as call;
 ghost use Rattle.rules.specs.declared.BookCall.TheVariants as book;
 ghost use Rattle.rules.specs.Index.{meaning};
-ghost use Rattle.calls.specs.Performing.{desk, Hinted, hints_after, DoesAround};
+ghost use Rattle.calls.specs.Performing.{desk, Hinted, hints_after, AnswersByHintsAround};
 ghost use Rattle.rules.specs.Worlds.{around};
 ghost use Rattle.calls.specs.Promises.{AnswersAround};
 
@@ -25,7 +25,7 @@ impl TableStore {
         value: V,
     ) -> Result<Answer<V>, Refusal>
         ensures answers { AnswersAround I.Key.Key.order (around self.old.store versions.old notes.old (meaning I.Key.Key.order (I.pairs index.old) (I.limit index.old))) (around self.new.store versions.new notes.new (meaning I.Key.Key.order (I.pairs index.new) (I.limit index.new))) (call.Book transaction (book.Insert key value)) result }
-        ensures does { DoesAround I.Key.Key.order (desk self.old versions.old notes.old (meaning I.Key.Key.order (I.pairs index.old) (I.limit index.old))) (desk self.new versions.new notes.new (meaning I.Key.Key.order (I.pairs index.new) (I.limit index.new))) (call.Book transaction (book.Insert key value)) result }
+        ensures by_hints { AnswersByHintsAround I.Key.Key.order (desk self.old versions.old notes.old (meaning I.Key.Key.order (I.pairs index.old) (I.limit index.old))) (desk self.new versions.new notes.new (meaning I.Key.Key.order (I.pairs index.new) (I.limit index.new))) (call.Book transaction (book.Insert key value)) result }
         ensures hints { Hinted self.new (hints_after self.old versions.old notes.old (call.Book transaction (book.Insert key value))) }
     {
         self.note_hint = self.note_place(notes, transaction);
@@ -54,7 +54,7 @@ impl TableStore {
         value: V,
     ) -> Result<Answer<V>, Refusal>
         ensures answers { AnswersAround I.Key.Key.order (around self.old.store versions.old notes.old (meaning I.Key.Key.order (I.pairs index.old) (I.limit index.old))) (around self.new.store versions.new notes.new (meaning I.Key.Key.order (I.pairs index.new) (I.limit index.new))) (call.Book transaction (book.Update key value)) result }
-        ensures does { DoesAround I.Key.Key.order (desk self.old versions.old notes.old (meaning I.Key.Key.order (I.pairs index.old) (I.limit index.old))) (desk self.new versions.new notes.new (meaning I.Key.Key.order (I.pairs index.new) (I.limit index.new))) (call.Book transaction (book.Update key value)) result }
+        ensures by_hints { AnswersByHintsAround I.Key.Key.order (desk self.old versions.old notes.old (meaning I.Key.Key.order (I.pairs index.old) (I.limit index.old))) (desk self.new versions.new notes.new (meaning I.Key.Key.order (I.pairs index.new) (I.limit index.new))) (call.Book transaction (book.Update key value)) result }
         ensures hints { Hinted self.new (hints_after self.old versions.old notes.old (call.Book transaction (book.Update key value))) }
     {
         self.note_hint = self.note_place(notes, transaction);
@@ -82,7 +82,7 @@ impl TableStore {
         key: I::Key,
     ) -> Result<Answer<V>, Refusal>
         ensures answers { AnswersAround I.Key.Key.order (around self.old.store versions.old notes.old (meaning I.Key.Key.order (I.pairs index.old) (I.limit index.old))) (around self.new.store versions.new notes.new (meaning I.Key.Key.order (I.pairs index.new) (I.limit index.new))) (call.Book transaction (book.Delete key)) result }
-        ensures does { DoesAround I.Key.Key.order (desk self.old versions.old notes.old (meaning I.Key.Key.order (I.pairs index.old) (I.limit index.old))) (desk self.new versions.new notes.new (meaning I.Key.Key.order (I.pairs index.new) (I.limit index.new))) (call.Book transaction (book.Delete key)) result }
+        ensures by_hints { AnswersByHintsAround I.Key.Key.order (desk self.old versions.old notes.old (meaning I.Key.Key.order (I.pairs index.old) (I.limit index.old))) (desk self.new versions.new notes.new (meaning I.Key.Key.order (I.pairs index.new) (I.limit index.new))) (call.Book transaction (book.Delete key)) result }
         ensures hints { Hinted self.new (hints_after self.old versions.old notes.old (call.Book transaction (book.Delete key))) }
     {
         self.note_hint = self.note_place(notes, transaction);

@@ -8,12 +8,8 @@ use Rattle.std.proofs.lemmas.List.{take_more, take_all, get_or-take, length-take
 use Rattle.std.proofs.lemmas.Bool.{or_parts}
 use Rattle.keys.specs.Laws.{TotalOrder}
 use Rattle.index.specs.Sets.{pair_order, tie, holds, plus, minus}
+use Rattle.index.proofs.Listing.{or_turn}
 use Rattle.index.proofs.Pairs.{pair_total, same_tie, false_unless, is_equal}
-
-or_turn : (a b c : Bool) → (a || (b || c)) ≡ (b || (a || c))
-or_turn true true c = refl
-or_turn true false c = refl
-or_turn false b c = refl
 
 gone : (t b : Bool) → (t ≡ true → b ≡ false) → b ≡ (not t && (t || b))
 gone true b h = h refl

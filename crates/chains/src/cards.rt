@@ -1,7 +1,8 @@
 // A chain index of card numbers.
 ghost use Rattle.keys.specs.Kinds.{card_order, card_hash};
-ghost use Rattle.chains.specs.Chained.{Once, LinksRight, HeadsRight};
-ghost use Rattle.std.proofs.Props.{props};
+ghost use Rattle.chains.specs.Chained.{held, Once, LinksRight, HeadsRight};
+ghost use Rattle.std.proofs.lemmas.Map.Keys.{IsDistinct-prop};
+ghost use Rattle.index.specs.Sets.{tie};
 
 use crate::engine::Chains;
 use keys::CardNumber;
@@ -10,7 +11,7 @@ use keys::CardNumber;
 #[derive(Drop)]
 pub struct CardChains {
     pub(crate) engine: Chains<CardNumber>,
-    ghost once: { Once card_order engine } by { Prim.hlevel props },
+    ghost once: { Once card_order engine } by { IsDistinct-prop (tie card_order) (held engine) },
     ghost links: { LinksRight card_hash engine },
     ghost heads: { HeadsRight card_hash engine },
 }

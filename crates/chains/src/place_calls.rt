@@ -1,7 +1,7 @@
 // The calls of a chain index of places on the board.
-ghost use Rattle.std.specs.Prelude.{◌≡◌, [], IfOk};
+ghost use Rattle.std.specs.Prelude.{◌≡◌, ◌≤◌, [], IfOk};
+ghost use Rattle.std.proofs.Common.{subst};
 ghost use Rattle.chains.specs.Chained.{held};
-ghost use Rattle.std.proofs.Common.{rules, arith};
 
 use crate::engine::Chains;
 use crate::places::PlaceChains;
@@ -28,7 +28,7 @@ impl Index for PlaceChains {
 
     ghost distinct = { λ s. s.once };
 
-    ghost within = { first_of (Prim.search rules, Prim.grind (arith, Self.row.coded.inj)) };
+    ghost within = { λ s. subst (λ n. n ≤ s.engine.limit) s.engine.pairs.ok.0 s.engine.few };
 
     fn capacity(&self) -> usize {
         self.engine.limit

@@ -1,7 +1,8 @@
 // A chain index of places on the board.
 ghost use Rattle.keys.specs.Kinds.{place_order, place_hash};
-ghost use Rattle.chains.specs.Chained.{Once, LinksRight, HeadsRight};
-ghost use Rattle.std.proofs.Props.{props};
+ghost use Rattle.chains.specs.Chained.{held, Once, LinksRight, HeadsRight};
+ghost use Rattle.std.proofs.lemmas.Map.Keys.{IsDistinct-prop};
+ghost use Rattle.index.specs.Sets.{tie};
 
 use crate::engine::Chains;
 use keys::BoardPlace;
@@ -10,7 +11,7 @@ use keys::BoardPlace;
 #[derive(Drop)]
 pub struct PlaceChains {
     pub(crate) engine: Chains<BoardPlace>,
-    ghost once: { Once place_order engine } by { Prim.hlevel props },
+    ghost once: { Once place_order engine } by { IsDistinct-prop (tie place_order) (held engine) },
     ghost links: { LinksRight place_hash engine },
     ghost heads: { HeadsRight place_hash engine },
 }

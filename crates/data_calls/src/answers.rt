@@ -12,7 +12,7 @@ use seeing::{Transaction, Version};
 use tables::make_note;
 
 /// What a call notes of the key: the version seen, unless it is the transaction's own, or that there is none.
-pub fn note_for<K: Copy, V: Copy>(
+pub(crate) fn note_for<K: Copy, V: Copy>(
     name: u64,
     key: K,
     seen: Option<(usize, Version<K, V>)>,
@@ -29,7 +29,7 @@ pub fn note_for<K: Copy, V: Copy>(
 }
 
 /// The answer of a read.
-pub fn value_for<K: Copy, V: Copy>(seen: Option<(usize, Version<K, V>)>) -> Answer<V>
+pub(crate) fn value_for<K: Copy, V: Copy>(seen: Option<(usize, Version<K, V>)>) -> Answer<V>
     ensures { result ≡ value_of seen }
 {
     match seen {
@@ -39,7 +39,7 @@ pub fn value_for<K: Copy, V: Copy>(seen: Option<(usize, Version<K, V>)>) -> Answ
 }
 
 /// The transaction has its answer: so many notes, and those waits.
-pub fn enter(store: &mut Store, slot: usize, t: Transaction, made: u64, waits: [bool; 64])
+pub(crate) fn enter(store: &mut Store, slot: usize, t: Transaction, made: u64, waits: [bool; 64])
     requires { slot < 64 }
     ensures { store.new ≡ with_slots store.old (slice_set store.old.slots slot (Some (answered made waits t))) }
 {
@@ -47,7 +47,7 @@ pub fn enter(store: &mut Store, slot: usize, t: Transaction, made: u64, waits: [
 }
 
 /// The call answers: the note is made and the waits are entered.
-pub fn conclude<K: Copy, V: Copy>(
+pub(crate) fn conclude<K: Copy, V: Copy>(
     store: &mut Store,
     notes: &mut [Entry<Note<K>>],
     hint: usize,

@@ -23,7 +23,7 @@ pub enum AlterCase {
 }
 
 /// Why the transaction may not read or write, if it may not.
-pub fn refusal_for(t: Transaction) -> Option<Refusal>
+pub(crate) fn refusal_for(t: Transaction) -> Option<Refusal>
     ensures { result ≡ refusal_for t }
 {
     let Phase::Active = t.phase else {
@@ -36,7 +36,7 @@ pub fn refusal_for(t: Transaction) -> Option<Refusal>
     }
 }
 
-pub fn insert_case<K: Copy, V: Copy>(found: Survey<K, V>) -> InsertCase
+pub(crate) fn insert_case<K: Copy, V: Copy>(found: Survey<K, V>) -> InsertCase
     ensures { result ≡ insert_case found.seen found.newer }
 {
     if let Some(_) = found.seen {
@@ -48,7 +48,11 @@ pub fn insert_case<K: Copy, V: Copy>(found: Survey<K, V>) -> InsertCase
     InsertCase::Free
 }
 
-pub fn alter_case<K: Copy, V: Copy>(slots: &Slots, name: u64, version: &Version<K, V>) -> AlterCase
+pub(crate) fn alter_case<K: Copy, V: Copy>(
+    slots: &Slots,
+    name: u64,
+    version: &Version<K, V>,
+) -> AlterCase
     ensures { result ≡ alter_case slots.now name version.now }
 {
     if version.is_made_by(name) {

@@ -10,7 +10,7 @@ use tables::in_order;
 use walks::{Survey, survey_keys};
 
 /// The slot and the transaction that a call names; it is active and not doomed.
-pub fn locate(
+pub(crate) fn locate(
     store: &Store,
     versions: usize,
     notes: usize,
@@ -33,7 +33,7 @@ pub fn locate(
 }
 
 /// The slot and the transaction that a call names, and what it finds from lower to upper.
-pub fn approach<I: Index, V: Copy>(
+pub(crate) fn approach<I: Index, V: Copy>(
     store: &Store,
     versions: &[Entry<Version<I::Key, V>>],
     notes: usize,

@@ -9,7 +9,7 @@ use Rattle.index.specs.Sets.{pair_order, tie, holds, plus, minus}
 use Rattle.index.specs.Listed.{keep, with_pair, listed, from_on, rest, Next}
 use Rattle.index.proofs.Pairs.{pair_total, same_pair, same_tie, tie_itself, false_unless, three, Lt, Le, le_lt, turned, lt_tie, lt_place, next_above, above_next}
 
-or_turn : (a b c : Bool) → (a || (b || c)) ≡ (b || (a || c))
+pub or_turn : (a b c : Bool) → (a || (b || c)) ≡ (b || (a || c))
 or_turn true true c = refl
 or_turn true false c = refl
 or_turn false b c = refl
@@ -25,7 +25,7 @@ is_less Equal h = absurd (true≢false (sym h))
 is_less Greater h = absurd (true≢false (sym h))
 
 module _ {A : Type 0} where
-  all_weaker : (P Q : A → Type 0) → ((x : A) → P x → Q x) → (xs : List A) → AllByRecursion P xs → AllByRecursion Q xs
+  pub all_weaker : (P Q : A → Type 0) → ((x : A) → P x → Q x) → (xs : List A) → AllByRecursion P xs → AllByRecursion Q xs
   all_weaker P Q f [] a = tt
   all_weaker P Q f (x ∷ xs) a = (f x a.0, all_weaker P Q f xs a.1)
 

@@ -7,11 +7,12 @@ use Rattle.std.specs.List.Sorted.{IsStrictlySortedBy}
 use Rattle.std.proofs.lemmas.List.{drop_all}
 use Rattle.keys.specs.Laws.{TotalOrder}
 use Rattle.index.specs.Sets.{pair_order, tie, LowestKey, reaches}
+use Rattle.index.proofs.Listing.{all_weaker}
 use Rattle.index.proofs.Pairs.{same_tie, false_unless, Lt, le_lt, not_both, lt_parts, lt_key}
 use Rattle.ordered.specs.declared.start.Start.{Start}
 use Rattle.ordered.specs.declared.start.Start.TheVariants.{At, After}
 use Rattle.ordered.specs.Rows.{reached, key_start, Bound, First}
-use Rattle.ordered.proofs.Rows.{all_weaker, holds_at, failing, onward, not_in}
+use Rattle.ordered.proofs.Rows.{holds_at, failing, onward, not_in}
 
 is_less : (r : Ordering) → is_lt r ≡ true → r ≡ Less
 is_less Less h = refl

@@ -8,19 +8,11 @@ use Rattle.std.specs.Ordering.{is_eq, is_le, ordering_reverse}
 use Rattle.std.specs.List.{AllByRecursion}
 use Rattle.std.specs.List.Sorted.{IsStrictlySortedBy}
 use Rattle.std.proofs.lemmas.List.{drop_all}
-use Rattle.std.proofs.lemmas.Bool.{cases_lt}
+use Rattle.std.proofs.lemmas.Bool.{cases_lt, or_right}
 use Rattle.keys.specs.Laws.{TotalOrder}
 use Rattle.index.specs.Sets.{pair_order, tie, holds, plus, minus}
+use Rattle.index.proofs.Listing.{or_turn, all_weaker}
 use Rattle.index.proofs.Pairs.{pair_total, same_tie, tie_itself, false_unless, le_lt, lt_le, lt_tie, gt_tie}
-
-or_turn : (a b c : Bool) → (a || (b || c)) ≡ (b || (a || c))
-or_turn true true c = refl
-or_turn true false c = refl
-or_turn false b c = refl
-
-or_right : (a b : Bool) → b ≡ true → (a || b) ≡ true
-or_right true b e = refl
-or_right false b e = e
 
 -- a row with no pair is in order
 pub none_sorted : {K : Type 0} (o : K → K → Ordering) (xs : List (K × ℕ)) → xs ≡ [] → IsStrictlySortedBy (pair_order o) xs
@@ -28,10 +20,6 @@ unfolding IsStrictlySortedBy
 none_sorted o xs e = subst (IsStrictlySortedBy (pair_order o)) (sym e) tt
 
 -- ---- what holds of each element of a list
-
-pub all_weaker : {X : Type 0} (P Q : X → Type 0) → ((x : X) → P x → Q x) → (xs : List X) → AllByRecursion P xs → AllByRecursion Q xs
-all_weaker P Q f [] a = tt
-all_weaker P Q f (x ∷ xs) a = (f x a.0, all_weaker P Q f xs a.1)
 
 all_at : {X : Type 0} (P : X → Type 0) (d : X) (xs : List X) (i : ℕ) → AllByRecursion P xs → i < length xs → P (slice_index_or xs i d)
 all_at P d [] i a h = absurd (not-suc-le-zero h)

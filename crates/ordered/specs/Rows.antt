@@ -4,7 +4,7 @@
 --     reached o k start x      x is at the start among the pairs of k, or after it
 --     Bound t xs i      the pair before i fails t, and the i-th passes it
 --     key_start strictly      where the pairs begin whose key is not below k, or above it
---     IsKeySearchResult R xs q r      r is Ok of where q stands in xs, or Err of where it would, as R answers
+--     IsKeySearchResult o xs q r      r is Ok of where q stands in xs, or Err of where it would
 --     Inserted xs ys n i q r      ys is xs with q at i, unless xs is full
 --     First o xs k start r      r is the first pair of xs that is reached
 use Rattle.std.specs.Prelude.{◌≡◌, ℕ, ◌-◌, ◌<◌, ◌≤◌, Bool, true, false, cond, List, length, Ok, Err, vec_items, Option, Result, MatchOption, slice_index_or}
@@ -42,13 +42,9 @@ abbrev pub First : {K : Type 0} → (K → K → Ordering) → List (K × ℕ) �
 First {K} o xs k start r =
     MatchOption r ((y : K × ℕ) → reached o k start y ≡ true → holds o xs y ≡ false) (λ x. (reached o k start x ≡ true) × (holds o xs x ≡ true) × ((y : K × ℕ) → reached o k start y ≡ true → pair_order o y x ≡ Less → holds o xs y ≡ false))
 
--- R x y c: x compares with y as c. The one before i is below q
-abbrev pub IsAbovePreviousKey : {X : Type 0} → (X → X → Ordering → Type 0) → List X → X → ℕ → Type 0
-IsAbovePreviousKey R xs q i = 0 < i → R q (slice_index_or xs (i - 1) q) Greater
-
-abbrev pub IsKeySearchResult : {X : Type 0} → (X → X → Ordering → Type 0) → List X → X → Result ℕ ℕ → Type 0
-IsKeySearchResult R xs q (Ok i) = (i < length xs) × R q (slice_index_or xs i q) Equal
-IsKeySearchResult R xs q (Err i) = (i ≤ length xs) × IsAbovePreviousKey R xs q i × (i < length xs → R q (slice_index_or xs i q) Less)
+abbrev pub IsKeySearchResult : {X : Type 0} → (X → X → Ordering) → List X → X → Result ℕ ℕ → Type 0
+IsKeySearchResult o xs q (Ok i) = (i < length xs) × (Equal ≡ o q (slice_index_or xs i q))
+IsKeySearchResult o xs q (Err i) = (i ≤ length xs) × (0 < i → Greater ≡ o q (slice_index_or xs (i - 1) q)) × (i < length xs → Less ≡ o q (slice_index_or xs i q))
 
 -- n is the limit
 abbrev pub Inserted : {X : Type 0} → List X → List X → ℕ → ℕ → X → Result Put IndexFault → Type 0

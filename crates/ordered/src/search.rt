@@ -1,6 +1,6 @@
 // The search among the pairs of a row.
 ghost use Rattle.std.specs.Prelude.{◌≡◌};
-ghost use Rattle.index.specs.Sets.{pair_order, answers};
+ghost use Rattle.index.specs.Sets.{pair_order};
 ghost use Rattle.ordered.specs.Rows.{items, InOrder, reached, Bound, First, IsKeySearchResult};
 
 use crate::row::Row;
@@ -45,7 +45,7 @@ impl<K: Key> Row<K> {
 
     /// Where the pair stands, or else where it would.
     pub(crate) fn find(&self, key: K, place: usize) -> Result<usize, usize>
-        ensures { IsKeySearchResult (answers (pair_order K.Key.order)) (items self.now) (key, place) result }
+        ensures { IsKeySearchResult (pair_order K.Key.order) (items self.now) (key, place) result }
     {
         let at = self.seek(key, Start::At(place));
         if at >= self.pairs.len() {

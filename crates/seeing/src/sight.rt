@@ -7,6 +7,7 @@ ghost use Rattle.seeing.specs.Seeing.{happened, preparing_other, visible, waits_
 use crate::{End, Phase, Slots, Transaction, Version};
 
 /// The slot of the transaction of that name, and the transaction.
+#[tactic(auto, using(crate::proofs::Searching::found_here, crate::proofs::Searching::named_here, crate::proofs::Searching::found_nowhere, crate::proofs::Searching::named_nowhere))]
 pub fn find(slots: &Slots, name: u64) -> Option<(usize, Transaction)>
     ensures finds { result ≡ found slots.now name 0 }
     ensures named { find slots.now name ≡ option_map (λ x. x.1) result }

@@ -1,5 +1,6 @@
 -- Free places of a table, and the one that is picked. Assumes nothing.
-use Rattle.std.proofs.Common.{◌≡◌, ℕ, zero, suc, ◌+◌, ◌<◌, ◌≤◌, Bool, true, false, cond, ◌||◌, T, List, [], ◌∷◌, length, get_or, drop, IfSome, Some, None, Option, unwrap_or, sym, refl, ap, ◌∙◌, subst, le_of_suc-le-suc, not-suc-le-zero, arith, MatchOption}
+use Rattle.std.proofs.Common.{◌≡◌, ℕ, zero, suc, ◌+◌, ◌<◌, ◌≤◌, Bool, true, false, cond, ◌||◌, T, List, [], ◌∷◌, length, get_or, drop, IfSome, Some, None, Option, unwrap_or, sym, refl, ap, ◌∙◌, subst, le_of_suc-le-suc, not-suc-le-zero, arith, MatchOption, slice_set}
+use Rattle.std.proofs.lemmas.List.{set_past}
 use Rattle.std.proofs.lemmas.Bool.{or_right}
 use Rattle.rules.specs.declared.Entry.{Entry}
 use Rattle.rules.specs.Tables.{entry, free, any_free, is_free, free_from}
@@ -23,6 +24,10 @@ module _ {A : Type 0} where
   entry_past [] p h = refl
   entry_past (x ∷ xs) zero h = absurd (not-suc-le-zero h)
   entry_past (x ∷ xs) (suc p) h = entry_past xs p (le_of_suc-le-suc h)
+
+  -- a write past the end changes nothing
+  pub write_past : (xs : List A) (p : ℕ) (x : A) → length xs ≤ p → xs ≡ slice_set xs p x
+  write_past xs p x h = sym (set_past xs p x h)
 
   free_none : (i : ℕ) (xs : List (Entry A)) → free_from i xs ≡ None → any_free xs ≡ false
   free_none i [] e = refl

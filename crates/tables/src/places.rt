@@ -6,6 +6,7 @@ ghost use Rattle.tables.specs.Places.{search_from, pick};
 use rules::Entry;
 
 /// What the table holds at the place; none if the entry is free or lies outside.
+#[tactic(auto, using(crate::proofs::Picking::held_there, crate::proofs::Picking::entry_past, crate::proofs::Picking::either_way))]
 pub fn held_at<T: Copy>(table: &[Entry<T>], place: usize) -> Option<T>
     ensures holds { result ≡ entry table.now place }
     ensures inside { OnSome result (place < length table.now) }
@@ -57,6 +58,7 @@ pub fn free_place<T: Copy>(table: &[Entry<T>], hint: usize) -> Option<usize>
 }
 
 /// The item at the place; a place outside changes nothing.
+#[tactic(auto, using(crate::proofs::Picking::write_past))]
 pub fn set_at<T: Copy>(table: &mut [T], place: usize, item: T)
     ensures { table.new ≡ slice_set table.old place item }
 {

@@ -57,7 +57,7 @@ fn judge<K: Copy, V: Copy>(
 }
 
 /// The test of the version that a pair leads to.
-pub fn test_one<K: Key, V: Copy>(
+pub(crate) fn test_one<K: Key, V: Copy>(
     slots: &Slots,
     versions: &[Entry<Version<K, V>>],
     name: u64,
@@ -75,7 +75,7 @@ pub fn test_one<K: Key, V: Copy>(
 }
 
 /// The tests of all that the transaction's notes cover, in the order made, up to the first version that tells against it.
-pub fn test_notes<I: Index, V: Copy>(
+pub(crate) fn test_notes<I: Index, V: Copy>(
     slots: &Slots,
     versions: &[Entry<Version<I::Key, V>>],
     notes: &[Entry<Note<I::Key>>],

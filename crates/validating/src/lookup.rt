@@ -23,7 +23,7 @@ fn end_of(t: Transaction) -> Result<u64, Refusal>
 }
 
 /// The transaction of that name, which is to be preparing and not doomed.
-pub fn find_preparing(
+pub(crate) fn find_preparing(
     store: &Store,
     versions: usize,
     notes: usize,

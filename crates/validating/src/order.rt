@@ -51,7 +51,7 @@ fn sooner<K: Copy>(
 }
 
 /// The owner's first note after the last one, with its place.
-pub fn next_note<K: Copy>(
+pub(crate) fn next_note<K: Copy>(
     notes: &[Entry<Note<K>>],
     owner: u64,
     last: Option<(u64, usize)>,

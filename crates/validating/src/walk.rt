@@ -7,7 +7,7 @@ use index::{Index, next_pair};
 use rules::Noted;
 
 /// Whether a version covered has to be visible: that of a version note, not those of a range.
-pub fn must_show<K: Copy>(noted: Noted<K>) -> bool
+pub(crate) fn must_show<K: Copy>(noted: Noted<K>) -> bool
     ensures { result ≡ must_show noted }
 {
     match noted {
@@ -17,7 +17,7 @@ pub fn must_show<K: Copy>(noted: Noted<K>) -> bool
 }
 
 /// All that the note covers.
-pub fn start_of<K: Copy>(noted: Noted<K>) -> Ahead<K>
+pub(crate) fn start_of<K: Copy>(noted: Noted<K>) -> Ahead<K>
     ensures { result ≡ start_of noted }
 {
     match noted {
@@ -27,7 +27,7 @@ pub fn start_of<K: Copy>(noted: Noted<K>) -> Ahead<K>
 }
 
 /// What is ahead once all before the key and place are passed.
-pub fn past<K: Copy>(ahead: Ahead<K>, key: K, from: usize) -> Ahead<K>
+pub(crate) fn past<K: Copy>(ahead: Ahead<K>, key: K, from: usize) -> Ahead<K>
     ensures { result ≡ past ahead key from }
 {
     match ahead {
@@ -38,7 +38,7 @@ pub fn past<K: Copy>(ahead: Ahead<K>, key: K, from: usize) -> Ahead<K>
 }
 
 /// The first of the pairs ahead.
-pub fn next_ahead<I: Index>(index: &I, ahead: Ahead<I::Key>) -> Option<(I::Key, usize)>
+pub(crate) fn next_ahead<I: Index>(index: &I, ahead: Ahead<I::Key>) -> Option<(I::Key, usize)>
     ensures { NextAhead I.Key.Key.order (I.pairs index.now) ahead result }
 {
     match ahead {

@@ -11,7 +11,7 @@ returns-in-Open g c =
     (desk c.args.self.now c.args.versions.now c.args.notes.now (meaning g.I.Key.Key.order (g.I.Index.pairs c.args.index.now) (g.I.Index.limit c.args.index.now)) c.args.rows.now)
     (desk c.open.new.self c.open.new.versions c.open.new.notes (meaning g.I.Key.Key.order (g.I.Index.pairs c.open.new.index) (g.I.Index.limit c.open.new.index)) c.args.rows.now)
     c.args.call (call.Open c.in-Open.stamp) c.open.result c.in-Open.is
-    (c.open.ensures.does c.args.rows.now) c.open.ensures.hints
+    (c.open.ensures.by_hints c.args.rows.now) c.open.ensures.hints
 
 pub returns-in-Begin : goal.returns-in-Begin
 returns-in-Begin g c =
@@ -19,7 +19,7 @@ returns-in-Begin g c =
     (desk c.args.self.now c.args.versions.now c.args.notes.now (meaning g.I.Key.Key.order (g.I.Index.pairs c.args.index.now) (g.I.Index.limit c.args.index.now)) c.args.rows.now)
     (desk c.begin.new.self c.args.versions.now c.args.notes.now (meaning g.I.Key.Key.order (g.I.Index.pairs c.args.index.now) (g.I.Index.limit c.args.index.now)) c.args.rows.now)
     c.args.call (call.Begin c.in-Begin.level) c.begin.result c.in-Begin.is
-    (c.begin.ensures.does c.args.rows.now) c.begin.ensures.hints
+    (c.begin.ensures.by_hints c.args.rows.now) c.begin.ensures.hints
 
 pub returns-in-Prepare : goal.returns-in-Prepare
 returns-in-Prepare g c =
@@ -27,7 +27,7 @@ returns-in-Prepare g c =
     (desk c.args.self.now c.args.versions.now c.args.notes.now (meaning g.I.Key.Key.order (g.I.Index.pairs c.args.index.now) (g.I.Index.limit c.args.index.now)) c.args.rows.now)
     (desk c.prepare.new.self c.args.versions.now c.args.notes.now (meaning g.I.Key.Key.order (g.I.Index.pairs c.args.index.now) (g.I.Index.limit c.args.index.now)) c.args.rows.now)
     c.args.call (call.Prepare c.in-Prepare.transaction) c.prepare.result c.in-Prepare.is
-    (c.prepare.ensures.does c.args.rows.now) c.prepare.ensures.hints
+    (c.prepare.ensures.by_hints c.args.rows.now) c.prepare.ensures.hints
 
 pub returns-in-Validate : goal.returns-in-Validate
 returns-in-Validate g c =
@@ -35,7 +35,7 @@ returns-in-Validate g c =
     (desk c.args.self.now c.args.versions.now c.args.notes.now (meaning g.I.Key.Key.order (g.I.Index.pairs c.args.index.now) (g.I.Index.limit c.args.index.now)) c.args.rows.now)
     (desk c.validate.new.self c.args.versions.now c.args.notes.now (meaning g.I.Key.Key.order (g.I.Index.pairs c.args.index.now) (g.I.Index.limit c.args.index.now)) c.args.rows.now)
     c.args.call (call.Validate c.in-Validate.transaction) c.validate.result c.in-Validate.is
-    (c.validate.ensures.does c.args.rows.now) c.validate.ensures.hints
+    (c.validate.ensures.by_hints c.args.rows.now) c.validate.ensures.hints
 
 pub returns-in-Commit : goal.returns-in-Commit
 returns-in-Commit g c =
@@ -43,7 +43,7 @@ returns-in-Commit g c =
     (desk c.args.self.now c.args.versions.now c.args.notes.now (meaning g.I.Key.Key.order (g.I.Index.pairs c.args.index.now) (g.I.Index.limit c.args.index.now)) c.args.rows.now)
     (desk c.commit.new.self c.args.versions.now c.args.notes.now (meaning g.I.Key.Key.order (g.I.Index.pairs c.args.index.now) (g.I.Index.limit c.args.index.now)) c.args.rows.now)
     c.args.call (call.Commit c.in-Commit.transaction) c.commit.result c.in-Commit.is
-    (c.commit.ensures.does c.args.rows.now) c.commit.ensures.hints
+    (c.commit.ensures.by_hints c.args.rows.now) c.commit.ensures.hints
 
 pub returns-in-Abort : goal.returns-in-Abort
 returns-in-Abort g c =
@@ -51,7 +51,7 @@ returns-in-Abort g c =
     (desk c.args.self.now c.args.versions.now c.args.notes.now (meaning g.I.Key.Key.order (g.I.Index.pairs c.args.index.now) (g.I.Index.limit c.args.index.now)) c.args.rows.now)
     (desk c.abort.new.self c.args.versions.now c.args.notes.now (meaning g.I.Key.Key.order (g.I.Index.pairs c.args.index.now) (g.I.Index.limit c.args.index.now)) c.args.rows.now)
     c.args.call (call.Abort c.in-Abort.transaction) c.abort.result c.in-Abort.is
-    (c.abort.ensures.does c.args.rows.now) c.abort.ensures.hints
+    (c.abort.ensures.by_hints c.args.rows.now) c.abort.ensures.hints
 
 pub returns-in-Finish : goal.returns-in-Finish
 returns-in-Finish g c =
@@ -59,7 +59,7 @@ returns-in-Finish g c =
     (desk c.args.self.now c.args.versions.now c.args.notes.now (meaning g.I.Key.Key.order (g.I.Index.pairs c.args.index.now) (g.I.Index.limit c.args.index.now)) c.args.rows.now)
     (desk c.finish.new.self c.finish.new.versions c.finish.new.notes (meaning g.I.Key.Key.order (g.I.Index.pairs c.args.index.now) (g.I.Index.limit c.args.index.now)) c.args.rows.now)
     c.args.call (call.Finish c.in-Finish.transaction) c.finish.result c.in-Finish.is
-    (c.finish.ensures.does c.args.rows.now) c.finish.ensures.hints
+    (c.finish.ensures.by_hints c.args.rows.now) c.finish.ensures.hints
 
 pub returns-in-Sweep : goal.returns-in-Sweep
 returns-in-Sweep g c =
@@ -67,7 +67,7 @@ returns-in-Sweep g c =
     (desk c.args.self.now c.args.versions.now c.args.notes.now (meaning g.I.Key.Key.order (g.I.Index.pairs c.args.index.now) (g.I.Index.limit c.args.index.now)) c.args.rows.now)
     (desk c.args.self.now c.sweep.new.versions c.args.notes.now (meaning g.I.Key.Key.order (g.I.Index.pairs c.sweep.new.index) (g.I.Index.limit c.sweep.new.index)) c.args.rows.now)
     c.args.call call.Sweep c.sweep.result c.in-Sweep.is
-    (c.sweep.ensures.does c.args.rows.now) (refl, refl)
+    (c.sweep.ensures.by_hints c.args.rows.now) (refl, refl)
 
 pub returns-in-Tally : goal.returns-in-Tally
 returns-in-Tally g c =
@@ -75,4 +75,4 @@ returns-in-Tally g c =
     (desk c.args.self.now c.args.versions.now c.args.notes.now (meaning g.I.Key.Key.order (g.I.Index.pairs c.args.index.now) (g.I.Index.limit c.args.index.now)) c.args.rows.now)
     (desk c.args.self.now c.args.versions.now c.args.notes.now (meaning g.I.Key.Key.order (g.I.Index.pairs c.args.index.now) (g.I.Index.limit c.args.index.now)) c.args.rows.now)
     c.args.call call.Tally c.tally.result c.in-Tally.is
-    (c.tally.ensures.does c.args.rows.now) (refl, refl)
+    (c.tally.ensures.by_hints c.args.rows.now) (refl, refl)

@@ -1,6 +1,0 @@
-use Rattle.std.proofs.Common.{sym}
-use Rattle.std.proofs.lemmas.List.{set_past}
-use Rattle.tables.proofs.places.set_at.Goals as goal
-
-pub returns-else-place-table : goal.returns-else-place-table
-returns-else-place-table g c = sym (set_past c.args.table.now c.args.place _ c.if-place-table.false)
