@@ -1,5 +1,6 @@
 -- What a walk along the chain of a key has passed. Assumes nothing.
-use Rattle.std.proofs.Common.{◌≡◌, ℕ, zero, suc, ◌+◌, ◌-◌, ◌<◌, ◌≤◌, true, false, ◌||◌, List, [], ◌∷◌, length, get_or, drop, Ordering, sym, refl, ap, ◌∙◌, arith}
+use Rattle.std.proofs.Common.{◌≡◌, ℕ, zero, suc, ◌+◌, ◌-◌, ◌<◌, ◌≤◌, true, false, ◌||◌, List, [], ◌∷◌, length, get_or, drop, Some, None, Option, MatchOption, Ordering, sym, refl, ap, ◌∙◌, arith}
+use Rattle.std.specs.Option.{is_some}
 use Rattle.std.proofs.lemmas.List.{drop_more, drop_all, length-map, get_or-map}
 use Rattle.std.proofs.lemmas.Bool.{or_right}
 use Rattle.keys.specs.Laws.{TotalOrder}
@@ -27,6 +28,11 @@ module _ {K : Type 0} (o : K → K → Ordering) (laws : TotalOrder o) where
   holds_at [] i d q h e = absurd (omega arith)
   holds_at (x ∷ xs) zero d q h e = ap (λ t. t || holds o xs q) (ap (λ w. tie o q w) (sym e) ∙ tie_itself o laws q)
   holds_at (x ∷ xs) (suc i) d q h e = or_right (tie o q x) (holds o xs q) (holds_at xs i d q (omega arith) e)
+
+  -- what `find` says
+  pub held_found : (xs : List (K × ℕ)) (q : K × ℕ) (r : Option ℕ) → MatchOption r (holds o xs q ≡ false) (λ i. (i < length xs) × (q ≡ get_or xs i q)) → holds o xs q ≡ is_some r
+  held_found xs q None e = e
+  held_found xs q (Some i) e = holds_at xs i q q e.0 e.1
 
   module _ (h : K → ℕ) (xs : List (K × ℕ)) (q : K × ℕ) where
     -- a pair of another chain does not tie with q

@@ -1,11 +1,13 @@
 -- Walks along a chain, by positions. Assumes nothing.
-use Rattle.std.proofs.Common.{◌≡◌, ℕ, suc, ◌-◌, ◌<◌, ◌≤◌, List, [], length, get_or, set, Ordering, sym, ap, ◌∙◌, subst, arith}
+use Rattle.std.proofs.Common.{◌≡◌, ℕ, suc, ◌-◌, ◌<◌, ◌≤◌, List, [], length, get_or, map, set, Ordering, sym, ap, ◌∙◌, subst, arith}
 use Rattle.std.specs.List.{IsDistinct}
-use Rattle.std.proofs.lemmas.List.{get_or_read, get_or-map, get_or-set_same, length-map, map-set, set-set}
+use Rattle.std.proofs.lemmas.List.{get_or-map, get_or-set_same, length-map, map-set, set-set}
 use Rattle.keys.specs.declared.Key.{Ghosts}
 use Rattle.index.specs.Sets.{tie}
-use Rattle.chains.specs.declared.engine.Chains.{Chains}
-use Rattle.chains.specs.Chained.{held, bucket, numbers, last_of, Linked, Headed, Chained, Right, Wired}
+use Rattle.chains.specs.declared.arena.Arena.{Arena}
+use Rattle.chains.specs.declared.arena.Link.{Link}
+use Rattle.chains.specs.declared.chains.Chains.{Chains}
+use Rattle.chains.specs.Chained.{held, bucket, numbers, last_of, Right, Wired}
 use Rattle.chains.proofs.Lasts.{last_low, last_at}
 
 -- a walk along the chain c has come to the link at: 0, or one more than a position of the chain
@@ -21,47 +23,49 @@ on_last c cs n at l e =
       chain = λ h. let s : at ≡ suc (at - 1) = omega arith in last_at c cs n (at - 1) (sym e ∙ s);
     }
 
-module _ (c : ℕ) (small : c < 256) (cs ls hs : List ℕ) (r : Right cs ls hs) where
-  -- the first link of the chain, as it is read
-  pub head_is : (at : ℕ) → at ≡ get_or hs c at → at ≡ last_of c cs (length cs)
-  head_is at e = get_or_read hs c at (let f = r.fixed in omega arith) e 0 ∙ r.heads c small
+-- what is read of a link at a position
+pub next_read : {K : Type 0} (xs : List (Link K)) (i : ℕ) (l : Link K) → i < length xs → l ≡ get_or xs i l → l.next ≡ get_or (map (λ x. x.next) xs) i 0
+next_read xs i l lt e = ap (λ x. x.next) e ∙ sym (get_or-map (λ x. x.next) xs i l 0 lt)
 
-  pub on_head : (at : ℕ) → at ≡ get_or hs c at → On c cs at
-  on_head at e = on_last c cs (length cs) at (omega arith) (head_is at e)
+pub pair_read : {K : Type 0} (xs : List (Link K)) (i : ℕ) (l : Link K) → i < length xs → l ≡ get_or xs i l → (d : K × ℕ) → l.pair ≡ get_or (map (λ x. x.pair) xs) i d
+pair_read xs i l lt e d = ap (λ x. x.pair) e ∙ sym (get_or-map (λ x. x.pair) xs i l d lt)
 
-  module _ (at : ℕ) (on : On c cs at) (some : 0 < at) (next : ℕ) (read : next ≡ get_or ls (at - 1) next) where
-    within : at - 1 < length cs
-    within = let l = on.low in omega arith
+module _ {K : Type 0} {g : Ghosts K} (s : Arena K g) (cs : List ℕ) (w : Wired cs s) where
+  pub count : length s.links.items ≡ length cs
+  count = sym (length-map s.links.items (λ l. l.next)) ∙ w.even
 
-    pub next_is : next ≡ last_of c cs (at - 1)
-    next_is =
-        let e = on.chain some in
-        let lt : at - 1 < length ls = let f = r.even in let w = within in omega arith in
-        get_or_read ls (at - 1) next lt read 0 ∙ r.links (at - 1) (omega arith) ∙ ap (λ d. last_of d cs (at - 1)) e
+  module _ (c : ℕ) (small : c < 256) where
+    pub on_head : On c cs (get_or s.heads c 0)
+    on_head = on_last c cs (length cs) (get_or s.heads c 0) (omega arith) (w.heads c small)
 
-    pub on_next : On c cs next
-    on_next = on_last c cs (at - 1) next (let w = within in omega arith) next_is
+    module _ (at : ℕ) (on : On c cs at) (some : 0 < at) where
+      pub within : at - 1 < length s.links.items
+      within = omega (arith, on.low, count)
 
-    pub next_less : next < at
-    next_less = let e = next_is in let l = last_low c cs (at - 1) in omega arith
+      module _ (l : Link K) (read : l ≡ get_or s.links.items (at - 1) l) where
+        pub next_is : l.next ≡ last_of c cs (at - 1)
+        next_is =
+            let e = on.chain some in
+            next_read s.links.items (at - 1) l within read ∙ w.links (at - 1) (omega arith) ∙ ap (λ d. last_of d cs (at - 1)) e
 
--- what an index says of its engine, and what the changes say of it
-pub wired_of : {K : Type 0} {g : Ghosts K} (o : K → K → Ordering) (h : K → ℕ) (s : Chains K g) → Chained o h s → Wired (numbers h (held s)) s
-wired_of o h s c =
-    let long = length-map (held s) (λ x. bucket h x.0) in
-    record { even = omega arith; fixed = omega arith; links = c.1; heads = c.2 }
+        pub on_next : On c cs l.next
+        on_next = on_last c cs (at - 1) l.next (omega (arith, on.low)) next_is
 
-pub chained_of : {K : Type 0} {g : Ghosts K} (o : K → K → Ordering) (h : K → ℕ) (s : Chains K g) → IsDistinct (tie o) (held s) → Wired (numbers h (held s)) s → Chained o h s
-chained_of o h s d w = (d, w.links, w.heads)
+        pub next_less : l.next < at
+        next_less = let e = next_is in let low = last_low c cs (at - 1) in omega arith
 
--- no pair, and each chain ends where it begins
-pub none_chained : {K : Type 0} (o : K → K → Ordering) (h : K → ℕ) (xs : List (K × ℕ)) (ls hs : List ℕ) → xs ≡ [] → ((c : ℕ) → c < 256 → get_or hs c 0 ≡ 0) → IsDistinct (tie o) xs × Linked (numbers h xs) ls × Headed (numbers h xs) hs
+-- what an index says of its arena
+pub wired : {K : Type 0} {g : Ghosts K} (s : Chains K g) → Wired (numbers g.hashed (held s.arena)) s.arena
+wired {g = g} s =
+    let long = length-map (held s.arena) (λ x. bucket g.hashed x.0) in
+    let pairs = length-map s.arena.links.items (λ l. l.pair) in
+    let nexts = length-map s.arena.links.items (λ l. l.next) in
+    record { even = omega arith; fixed = s.arena.fixed; links = s.links; heads = s.heads }
+
+-- no pair stands twice
+pub none_twice : {K : Type 0} (o : K → K → Ordering) (xs : List (K × ℕ)) → xs ≡ [] → IsDistinct (tie o) xs
 unfolding IsDistinct
-none_chained o h xs ls hs e z = (
-  subst (IsDistinct (tie o)) (sym e) tt,
-  subst (λ ys. Linked (numbers h ys) ls) (sym e) (λ j l. absurd (omega arith)),
-  subst (λ ys. Headed (numbers h ys) hs) (sym e) z,
-)
+none_twice o xs e = subst (IsDistinct (tie o)) (sym e) tt
 
 pub number_at : {K : Type 0} (h : K → ℕ) (xs : List (K × ℕ)) (j : ℕ) (x : K × ℕ) → j < length xs → x ≡ get_or xs j x → get_or (numbers h xs) j 256 ≡ bucket h x.0
 number_at h xs j x l e = get_or-map (λ y. bucket h y.0) xs j x 256 l ∙ ap (λ y. bucket h y.0) (sym e)

@@ -1,4 +1,5 @@
 -- What a chain index holds. Assumes nothing.
+--     held s, nexts s      the pairs and the links, as they stand
 --     bucket h k      the chain of the key k: there are 256
 --     numbers h xs      the chain of each pair
 --     last_of c cs n      one more than the last position below n that is in the chain c, or 0
@@ -8,10 +9,13 @@ use Rattle.std.specs.declared.cmp.Ordering.{Ordering}
 use Rattle.std.specs.List.{IsDistinct}
 use Rattle.keys.specs.declared.Key.{Ghosts}
 use Rattle.index.specs.Sets.{tie}
-use Rattle.chains.specs.declared.engine.Chains.{Chains}
+use Rattle.chains.specs.declared.arena.Arena.{Arena}
 
-abbrev pub held : {K : Type 0} {g : Ghosts K} → Chains K g → List (K × ℕ)
-held s = vec_items s.pairs
+abbrev pub held : {K : Type 0} {g : Ghosts K} → Arena K g → List (K × ℕ)
+held s = map (λ l. l.pair) (vec_items s.links)
+
+abbrev pub nexts : {K : Type 0} {g : Ghosts K} → Arena K g → List ℕ
+nexts s = map (λ l. l.next) (vec_items s.links)
 
 abbrev pub bucket : {K : Type 0} → (K → ℕ) → K → ℕ
 bucket h k = h k % 256
@@ -38,19 +42,16 @@ pub record Right (cs ls hs : List ℕ) : Type 0 where
   pub links : Linked cs ls
   pub heads : Headed cs hs
 
--- what a kind of chain index adds to the engine that it holds: each pair stands once, and the chains are right
-abbrev pub Once : {K : Type 0} {g : Ghosts K} → (K → K → Ordering) → Chains K g → Type 0
+-- what a chain index says of its arena: each pair stands once, and the chains are right
+abbrev pub Once : {K : Type 0} {g : Ghosts K} → (K → K → Ordering) → Arena K g → Type 0
 Once o s = IsDistinct (tie o) (held s)
 
-abbrev pub LinksRight : {K : Type 0} {g : Ghosts K} → (K → ℕ) → Chains K g → Type 0
-LinksRight h s = Linked (numbers h (held s)) (vec_items s.links)
+abbrev pub LinksRight : {K : Type 0} {g : Ghosts K} → (K → ℕ) → Arena K g → Type 0
+LinksRight h s = Linked (numbers h (held s)) (nexts s)
 
-abbrev pub HeadsRight : {K : Type 0} {g : Ghosts K} → (K → ℕ) → Chains K g → Type 0
-HeadsRight h s = Headed (numbers h (held s)) (vec_items s.heads)
+abbrev pub HeadsRight : {K : Type 0} {g : Ghosts K} → (K → ℕ) → Arena K g → Type 0
+HeadsRight h s = Headed (numbers h (held s)) s.heads
 
-abbrev pub Chained : {K : Type 0} {g : Ghosts K} → (K → K → Ordering) → (K → ℕ) → Chains K g → Type 0
-Chained o h s = Once o s × LinksRight h s × HeadsRight h s
-
--- the chains of the engine are cs
-abbrev pub Wired : {K : Type 0} {g : Ghosts K} → List ℕ → Chains K g → Type 0
-Wired cs s = Right cs (vec_items s.links) (vec_items s.heads)
+-- the chains of the arena are cs
+abbrev pub Wired : {K : Type 0} {g : Ghosts K} → List ℕ → Arena K g → Type 0
+Wired cs s = Right cs (nexts s) s.heads

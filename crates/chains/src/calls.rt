@@ -1,111 +1,74 @@
-// The calls of a chain index, over any kind of key.
-ghost use Rattle.std.specs.Prelude.{◌≡◌, ◌<◌, false, [], length, IfOk, MatchOption, slice_index_or};
-ghost use Rattle.index.specs.Sets.{holds, Lowest, LowestKey};
-ghost use Rattle.index.specs.Answers.{PutSays, RemoveSays};
-ghost use Rattle.chains.specs.Chained.{held, Chained};
+// The calls of the index.
+ghost use Rattle.std.specs.Prelude.{◌≡◌, ◌≤◌};
+ghost use Rattle.std.proofs.Common.{◌∙◌, sym, subst};
+ghost use Rattle.std.proofs.lemmas.List.{length-map};
+ghost use Rattle.chains.specs.Chained.{held};
 
-use crate::engine::Chains;
-use crate::steps::{better, chain_of, is_pair, nearer, reset};
-use index::{IndexFault, Put};
+use crate::chains::Chains;
+use crate::steps::{better, chain_of, nearer};
+use index::{Index, IndexFault, Put};
 use keys::Key;
-use std::alloc::{AllocError, Global};
 
-impl<K: Key> Chains<K> {
-    /// No pair, and room for `limit` of them.
-    pub(crate) fn with_room(heap: Global, limit: usize) -> Result<Chains<K>, AllocError>
-        ensures { IfOk result (λ s. (held s ≡ []) × (s.limit ≡ limit) × Chained K.Key.order K.Key.hashed s) }
-    {
-        let pairs = Vec::with_capacity(heap, limit)?;
-        let links = Vec::with_capacity(heap, limit)?;
-        let heads = vec![in heap; 0usize; 256]?;
-        Ok(Chains {
-            pairs,
-            links,
-            heads,
-            limit,
-        })
+impl<K: Key> Index for Chains<K> {
+    type Key = K;
+
+    ghost pairs = { λ s. held s.arena };
+
+    ghost limit = { λ s. s.arena.limit };
+
+    ghost distinct = { λ s. s.once };
+
+    ghost within = { λ s. subst (λ n. n ≤ s.arena.limit) (s.arena.links.ok.0 ∙ sym (length-map s.arena.links.items (λ l. l.pair))) s.arena.few };
+
+    fn capacity(&self) -> usize {
+        self.arena.limit
     }
 
-    /// Where the pair stands.
-    fn find(&self, key: K, place: usize) -> Option<usize>
-        requires { Chained K.Key.order K.Key.hashed self.now }
-        ensures { MatchOption result (holds K.Key.order (held self.now) (key, place) ≡ false) (λ i. (i < length (held self.now)) × ((key, place) ≡ slice_index_or (held self.now) i (key, place))) }
-    {
-        let mut at = self.heads[chain_of(key)];
-        while at > 0 {
-            if is_pair(&self.pairs[at - 1], key, place) {
-                return Some(at - 1);
-            }
-            at = self.links[at - 1];
-        }
-        None
-    }
-
-    pub(crate) fn add(&mut self, key: K, place: usize) -> Result<Put, IndexFault>
-        requires { Chained K.Key.order K.Key.hashed self.old }
-        ensures says { PutSays K.Key.order (held self.old) (held self.new) self.old.limit (key, place) result }
-        ensures limit { self.new.limit ≡ self.old.limit }
-        ensures valid { Chained K.Key.order K.Key.hashed self.new }
-    {
-        if let Some(_) = self.find(key, place) {
+    fn put(&mut self, key: K, place: usize) -> Result<Put, IndexFault> {
+        if self.find(key, place).is_some() {
             return Ok(Put::Present);
         }
-        if self.pairs.len() >= self.limit {
-            return Err(IndexFault {
-                capacity: self.limit,
-            });
+        let capacity = self.capacity();
+        if self.arena.links.len() >= capacity {
+            return Err(IndexFault { capacity });
         }
-        self.append(key, place);
+        self.arena.append(key, place);
         Ok(Put::Added)
     }
 
     /// Takes the pair out: the last pair takes its position.
-    pub(crate) fn take_out(&mut self, key: K, place: usize) -> bool
-        requires { Chained K.Key.order K.Key.hashed self.old }
-        ensures says { RemoveSays K.Key.order (held self.old) (held self.new) (key, place) result }
-        ensures limit { self.new.limit ≡ self.old.limit }
-        ensures valid { Chained K.Key.order K.Key.hashed self.new }
-    {
+    fn remove(&mut self, key: K, place: usize) -> bool {
         let Some(at) = self.find(key, place) else {
             return false;
         };
-        let last = self.pop_last();
-        if at < self.pairs.len() {
-            self.replace(at, last);
+        let last = self.arena.pop_last();
+        if at < self.arena.links.len() {
+            self.arena.replace(at, last);
         }
         true
     }
 
-    pub(crate) fn lowest_place(&self, key: K, from: usize) -> Option<usize>
-        requires { Chained K.Key.order K.Key.hashed self.now }
-        ensures { Lowest (λ p. holds K.Key.order (held self.now) (key, p)) from result }
-    {
+    fn next_place(&self, key: K, from: usize) -> Option<usize> {
+        // Along the links, as in find.
         let mut best = None;
-        let mut at = self.heads[chain_of(key)];
+        let mut at = self.arena.heads[chain_of(key)];
         while at > 0 {
-            best = better(best, key, from, &self.pairs[at - 1]);
-            at = self.links[at - 1];
+            let link = &self.arena.links[at - 1];
+            best = better(best, key, from, &link.pair);
+            at = link.next;
         }
         best
     }
 
-    pub(crate) fn lowest_key(&self, key: K, strictly: bool) -> Option<K>
-        ensures { LowestKey K.Key.order (held self.now) key strictly result }
-    {
-        let mut best: Option<K> = None;
-        for i in 0..self.pairs.len() {
-            best = nearer(best, key, strictly, self.pairs[i].0);
+    fn next_key(&self, key: K, strictly: bool) -> Option<K> {
+        let mut best = None;
+        for link in &self.arena.links {
+            best = nearer(best, key, strictly, link.pair.0);
         }
         best
     }
 
-    pub(crate) fn empty(&mut self)
-        ensures pairs { held self.new ≡ [] }
-        ensures limit { self.new.limit ≡ self.old.limit }
-        ensures valid { Chained K.Key.order K.Key.hashed self.new }
-    {
-        self.pairs.clear();
-        self.links.clear();
-        reset(&mut self.heads);
+    fn clear(&mut self) {
+        self.arena.clear();
     }
 }

@@ -1,12 +1,36 @@
 // The writes to the chains. Each says of which list of chains the links and the heads are right; a position that is unlinked has 256 there, which is no chain.
-ghost use Rattle.std.specs.Prelude.{◌≡◌, ℕ, ◌-◌, ◌<◌, ◌≤◌, List, [], ◌∷◌, ◌++◌, length, take, slice_index, slice_index_or, slice_set};
-ghost use Rattle.chains.specs.Chained.{held, numbers, Wired};
+// That the chains are right, and that a position lies below their length, are clauses and no invariant, since both change from step to step.
+ghost use Rattle.std.specs.Prelude.{◌≡◌, ℕ, ◌-◌, ◌<◌, ◌≤◌, List, [], ◌∷◌, ◌++◌, length, take, IfOk, slice_index, slice_index_or, slice_set};
+ghost use Rattle.chains.specs.Chained.{held, nexts, numbers, Wired};
 
-use crate::engine::Chains;
-use crate::steps::{chain_of, insert_after};
+use crate::arena::{Arena, Link};
+use crate::steps::chain_of;
 use keys::Key;
+use std::alloc::{AllocError, Global};
 
-impl<K: Key> Chains<K> {
+impl<K: Key> Arena<K> {
+    /// No pair, and the memory for `limit` of them.
+    pub(crate) fn new(heap: Global, limit: usize) -> Result<Arena<K>, AllocError>
+        ensures { IfOk result (λ s. (held s ≡ []) × (s.limit ≡ limit) × Wired (numbers K.Key.hashed (held s)) s) }
+    {
+        let links = Vec::with_capacity(heap, limit)?;
+        Ok(Arena {
+            links,
+            heads: [0; 256],
+            limit,
+        })
+    }
+
+    /// Takes out all pairs.
+    pub(crate) fn clear(&mut self)
+        ensures pairs { held self.new ≡ [] }
+        ensures limit { self.new.limit ≡ self.old.limit }
+        ensures wired { Wired (numbers K.Key.hashed (held self.new)) self.new }
+    {
+        self.links.clear();
+        self.heads.fill(0);
+    }
+
     /// Adds the pair at the end, as the head of its chain.
     pub(crate) fn append(&mut self, key: K, place: usize)
         requires wired { Wired (numbers K.Key.hashed (held self.old)) self.old }
@@ -16,10 +40,12 @@ impl<K: Key> Chains<K> {
         ensures wired { Wired (numbers K.Key.hashed (held self.new)) self.new }
     {
         let chain = chain_of(key);
-        let last = self.heads[chain];
-        self.links.push_reserved(last);
-        self.pairs.push_reserved((key, place));
-        self.heads[chain] = self.pairs.len();
+        let next = self.heads[chain];
+        self.links.push_reserved(Link {
+            pair: (key, place),
+            next,
+        });
+        self.heads[chain] = self.links.len();
     }
 
     /// Takes the last pair off. It is the head of its chain.
@@ -31,11 +57,9 @@ impl<K: Key> Chains<K> {
         ensures limit { self.new.limit ≡ self.old.limit }
         ensures wired { Wired (numbers K.Key.hashed (held self.new)) self.new }
     {
-        let last = self.pairs.len() - 1;
-        let pair = self.pairs[last];
-        let link = self.links[last];
-        self.heads[chain_of(pair.0)] = link;
-        self.pairs.truncate(last);
+        let last = self.links.len() - 1;
+        let Link { pair, next } = self.links[last];
+        self.heads[chain_of(pair.0)] = next;
         self.links.truncate(last);
         pair
     }
@@ -43,16 +67,17 @@ impl<K: Key> Chains<K> {
     /// Along the chain, whose head is above `bound`, to the last position that is not below it: its link is not above it.
     fn above(&self, chain: usize, bound: usize) -> usize
         requires chain { chain < 256 }
-        requires bound { bound < slice_index self.now.heads.items chain }
+        requires bound { bound < slice_index self.now.heads chain }
         requires wired { (cs : List ℕ) × Wired cs self.now }
         ensures chain { (cs : List ℕ) → Wired cs self.now → slice_index_or cs result 256 ≡ chain }
-        ensures within { result < length self.now.links.items }
+        ensures within { result < length (nexts self.now) }
         ensures bound { bound ≤ result }
-        ensures link { slice_index self.now.links.items result ≤ bound }
+        ensures link { slice_index (nexts self.now) result ≤ bound }
     {
+        // Along the links, as in find; it ends at a link, not at a pair.
         let mut at = self.heads[chain];
         loop {
-            let next = self.links[at - 1];
+            let next = self.links[at - 1].next;
             if next <= bound {
                 return at - 1;
             }
@@ -68,13 +93,13 @@ impl<K: Key> Chains<K> {
         ensures limit { self.new.limit ≡ self.old.limit }
         ensures wired { Wired (slice_set (numbers K.Key.hashed (held self.new)) at 256) self.new }
     {
-        let chain = chain_of(self.pairs[at].0);
-        let link = self.links[at];
+        let Link { pair, next } = self.links[at];
+        let chain = chain_of(pair.0);
         if self.heads[chain] == at + 1 {
-            self.heads[chain] = link;
+            self.heads[chain] = next;
         } else {
             let before = self.above(chain, at + 1);
-            self.links[before] = link;
+            self.links[before].next = next;
         }
     }
 
@@ -87,15 +112,15 @@ impl<K: Key> Chains<K> {
         ensures wired { Wired (numbers K.Key.hashed (held self.new)) self.new }
     {
         let chain = chain_of(pair.0);
-        self.pairs[at] = pair;
         let head = self.heads[chain];
         if head <= at {
-            self.links[at] = head;
+            self.links[at] = Link { pair, next: head };
             self.heads[chain] = at + 1;
         } else {
             let before = self.above(chain, at);
-            let link = self.links[before];
-            insert_after(&mut self.links, before, at, link);
+            let next = self.links[before].next;
+            self.links[at] = Link { pair, next };
+            self.links[before].next = at + 1;
         }
     }
 

@@ -1,14 +1,10 @@
-// Indexes of 256 chains, one for each remainder of the key's hash number: a type for each kind of key over one engine.
+// An index of 256 chains, one for each remainder of the key's hash number: one type for every kind of key.
 #![tactic(auto)]
 
+mod arena;
 mod calls;
-mod card_calls;
-mod cards;
+mod chains;
 mod changes;
-mod engine;
-mod place_calls;
-mod places;
 mod steps;
 
-pub use cards::CardChains;
-pub use places::PlaceChains;
+pub use chains::Chains;

@@ -10,6 +10,10 @@ ghost use Rattle.index.specs.Listed.{Next};
 
 use keys::Key;
 
+mod between;
+
+pub use between::{PairsBetween, pairs_between};
+
 /// What `put` says of a pair that now is in the set.
 #[derive(Clone, Copy, PartialEq, Eq, Debug)]
 pub enum Put {
@@ -97,14 +101,10 @@ pub fn next_pair<I: Index>(
     if is_last(&key, &upper) {
         return None;
     }
-    let Some(next) = index.next_key(key, true) else {
-        return None;
-    };
+    let next = index.next_key(key, true)?;
     if is_beyond(&next, &upper) {
         return None;
     }
-    match index.next_place(next, 0) {
-        Some(place) => Some((next, place)),
-        None => None,
-    }
+    let place = index.next_place(next, 0)?;
+    Some((next, place))
 }

@@ -34,7 +34,7 @@ pub trait Key: Copy {
 }
 
 /// A card by its number.
-#[derive(Clone, Copy)]
+#[derive(Clone, Copy, PartialEq, Eq, PartialOrd, Ord, Debug)]
 pub struct CardNumber(pub u32);
 
 impl Key for CardNumber {
@@ -51,7 +51,7 @@ impl Key for CardNumber {
     }
 
     fn equals(&self, other: &CardNumber) -> bool {
-        self.compare(other).is_eq()
+        self.0 == other.0
     }
 
     fn hash(&self) -> u32 {
@@ -62,17 +62,24 @@ impl Key for CardNumber {
 
 impl fmt::Display for CardNumber {
     fn fmt<W: fmt::Write>(&self, f: &mut fmt::Formatter<W>) -> fmt::Result {
-        let number = self.0;
-        write!(f, "{number}")
+        write!(f, "{}", self.0)
     }
 }
 
 /// A place on the board, compared by seat, then zone, then slot.
-#[derive(Clone, Copy)]
+#[derive(Clone, Copy, PartialEq, Eq, PartialOrd, Ord, Debug)]
 pub struct BoardPlace {
     pub seat: u8,
     pub zone: u8,
     pub slot: u8,
+}
+
+impl BoardPlace {
+    pub fn at(seat: u8, zone: u8, slot: u8) -> BoardPlace
+        ensures { result ≡ record { seat = seat; zone = zone; slot = slot } }
+    {
+        BoardPlace { seat, zone, slot }
+    }
 }
 
 impl Key for BoardPlace {
@@ -85,12 +92,11 @@ impl Key for BoardPlace {
     ghost laws = { place_laws };
 
     fn compare(&self, other: &BoardPlace) -> Ordering {
-        self.seat.cmp(&other.seat).then(self.zone.cmp(&other.zone).then(self.slot.cmp(&other.slot)))
+        self.cmp(other)
     }
 
     fn equals(&self, other: &BoardPlace) -> bool {
-        let order = self.compare(other);
-        order.is_eq()
+        self == other
     }
 
     fn hash(&self) -> u32 {
@@ -100,21 +106,32 @@ impl Key for BoardPlace {
 
 impl fmt::Display for BoardPlace {
     fn fmt<W: fmt::Write>(&self, f: &mut fmt::Formatter<W>) -> fmt::Result {
-        let seat = self.seat;
-        let zone = self.zone;
-        let slot = self.slot;
-        write!(f, "{seat}.{zone}.{slot}")
+        write!(f, "{}.{}.{}", self.seat, self.zone, self.slot)
     }
 }
 
 /// The value of a score track.
-#[derive(Clone, Copy)]
+#[derive(Clone, Copy, PartialEq, Eq, Debug)]
 pub struct Score(pub i32);
 
+impl fmt::Display for Score {
+    fn fmt<W: fmt::Write>(&self, f: &mut fmt::Formatter<W>) -> fmt::Result {
+        write!(f, "{}", self.0)
+    }
+}
+
 /// The value of a card on the board.
-#[derive(Clone, Copy)]
+#[derive(Clone, Copy, PartialEq, Eq, Debug)]
 pub struct Card {
     pub face: u16,
     pub counters: u8,
     pub turned: bool,
+}
+
+/// The face and the counters, and whether the card is turned.
+impl fmt::Display for Card {
+    fn fmt<W: fmt::Write>(&self, f: &mut fmt::Formatter<W>) -> fmt::Result {
+        let turned = if self.turned { " turned" } else { "" };
+        write!(f, "card {}+{}{turned}", self.face, self.counters)
+    }
 }

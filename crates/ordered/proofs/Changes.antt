@@ -1,39 +1,55 @@
--- What `put` and `remove` say of a row in order, once the search has said where the pair stands. Assumes nothing.
-use Rattle.std.proofs.Common.{◌≡◌, ℕ, ◌+◌, true, false, List, length, Ok, Err, Result, Ordering, sym, ap, ◌∙◌, subst}
-use Rattle.std.specs.List.Sorted.{IsStrictlySortedBy}
-use Rattle.std.specs.List.{remove}
+-- What `put` and `remove` say, once the search has said where the pair stands. Assumes nothing.
+use Rattle.std.proofs.Common.{◌≡◌, ℕ, ◌+◌, ◌<◌, ◌≤◌, true, false, List, length, get_or, Ok, Err, Ordering, Less, Equal, Greater, sym, ap, ◌∙◌, subst, ⊎_elim, arith}
+use Rattle.std.specs.Ordering.{is_lt, ordering_reverse}
+use Rattle.std.specs.List.{insert, remove, HoldsAt}
+use Rattle.std.specs.List.Sorted.{IsStrictlySortedBy, IsSortedBy, IsPartitionPoint, IsBinarySearchResult}
+use Rattle.std.proofs.lemmas.Bool.{cases_lt}
 use Rattle.std.proofs.lemmas.List.Edits.{length-insert, length-remove}
+use Rattle.std.proofs.lemmas.List.Sorted.{searchable_from_sorted}
+use Rattle.std.proofs.lemmas.Map.Keys.{Less-from_sorted}
 use Rattle.keys.specs.Laws.{TotalOrder}
-use Rattle.index.specs.declared.Put.{Put}
-use Rattle.index.specs.declared.Put.TheVariants.{Added, Present}
-use Rattle.index.specs.declared.IndexFault.{IndexFault}
+use Rattle.index.specs.declared.Put.TheVariants.{Added}
 use Rattle.index.specs.Answers.{PutSays, RemoveSays}
 use Rattle.index.specs.Sets.{pair_order, holds}
-use Rattle.index.proofs.Pairs.{same_pair}
-use Rattle.ordered.specs.Rows.{Inserted, IsKeySearchResult}
-use Rattle.ordered.proofs.Rows.{holds_at, holds_none, holds_put, holds_cut, missing, sorted_put, sorted_without}
+use Rattle.index.proofs.Pairs.{pair_total, same_pair, turned, lt_tie, gt_tie}
+use Rattle.ordered.proofs.Rows.{holds_at, holds_none, holds_put, holds_cut, sorted_put, sorted_cut}
 
 module _ {K : Type 0} (o : K → K → Ordering) (laws : TotalOrder o) (xs : List (K × ℕ)) (q : K × ℕ) (i : ℕ) where
-  pub found : IsKeySearchResult (pair_order o) xs q (Ok i) → holds o xs q ≡ true
-  found f = holds_at o laws xs i q q f.0 (same_pair o laws q _ (sym f.1))
+  module _ (h : i < length xs) (f : HoldsAt (λ y. pair_order o y q ≡ Equal) xs i) where
+    here : q ≡ get_or xs i q
+    here = sym (same_pair o laws (get_or xs i q) q (f q))
 
-  module _ (s : IsStrictlySortedBy (pair_order o) xs) where
-    pub lacking : IsKeySearchResult (pair_order o) xs q (Err i) → holds o xs q ≡ false
-    lacking f = holds_none o laws xs q (missing o laws q xs i s f.0 f.1 f.2)
+    pub found : holds o xs q ≡ true
+    found = holds_at o laws xs i q q h here
 
-    module _ (ys : List (K × ℕ)) where
-      pub put_says : IsKeySearchResult (pair_order o) xs q (Err i) → (n : ℕ) (r : Result Put IndexFault) → Inserted xs ys n i q r → PutSays o xs ys n q r
-      put_says f n (Ok Added) h = (lacking f, h.0, ap (holds o) h.1 ∙ holds_put o laws i xs q, ap length h.1 ∙ length-insert xs i q f.0)
-      put_says f n (Ok Present) h = absurd h
-      put_says f n (Err full) h = (lacking f, h.0, h.1, h.2)
+    pub remove_says : (ys : List (K × ℕ)) → IsStrictlySortedBy (pair_order o) xs → ys ≡ remove xs i → RemoveSays o xs ys q true
+    remove_says ys s e = (found, ap (holds o) e ∙ holds_cut o laws i xs q s h here, ap (λ n. n + 1) (ap length e) ∙ length-remove xs i h)
 
-      pub put_sorted : IsKeySearchResult (pair_order o) xs q (Err i) → (n : ℕ) (r : Result Put IndexFault) → Inserted xs ys n i q r → IsStrictlySortedBy (pair_order o) ys
-      put_sorted f n (Ok Added) h = subst (IsStrictlySortedBy (pair_order o)) (sym h.1) (sorted_put o laws q xs i s f.0 f.1 f.2)
-      put_sorted f n (Ok Present) h = absurd h
-      put_sorted f n (Err full) h = subst (IsStrictlySortedBy (pair_order o)) (sym h.2) s
+  pub remove_sorted : (ys : List (K × ℕ)) → IsStrictlySortedBy (pair_order o) xs → ys ≡ remove xs i → IsStrictlySortedBy (pair_order o) ys
+  remove_sorted ys s e = subst (IsStrictlySortedBy (pair_order o)) (sym e) (sorted_cut o laws i xs s)
 
-      pub remove_says : IsKeySearchResult (pair_order o) xs q (Ok i) → ys ≡ remove xs i → RemoveSays o xs ys q true
-      remove_says f e = (found f, ap (holds o) e ∙ holds_cut o laws i xs q s f.0 f.1, ap (λ n. n + 1) (ap length e) ∙ length-remove xs i f.0)
+  module _ (s : IsStrictlySortedBy (pair_order o) xs) (h : i ≤ length xs) (f : IsBinarySearchResult (λ y. pair_order o y q) xs (Err i)) where
+    ascend : IsSortedBy (λ x y. is_lt (pair_order o x y)) xs
+    ascend k d l m = ap is_lt (turned o laws (get_or xs (k + 1) d) (get_or xs k d) (Less-from_sorted (pair_order o) xs k (k + 1) d s (omega arith) m))
 
-      pub remove_sorted : ys ≡ remove xs i → IsStrictlySortedBy (pair_order o) ys
-      remove_sorted e = subst (IsStrictlySortedBy (pair_order o)) (sym e) (sorted_without o laws i xs s)
+    parted : IsPartitionPoint (λ y. pair_order o y q ≡ Less) (λ y. pair_order o y q ≡ Greater) xs i
+    parted = f (searchable_from_sorted (pair_total o laws) (λ (x : K × ℕ). x) xs q ascend)
+
+    above : (j : ℕ) → i ≤ j → j < length xs → pair_order o q (get_or xs j q) ≡ Less
+    above j l m = (pair_total o laws).antisymm q (get_or xs j q) ∙ ap ordering_reverse (parted.1 j q l m)
+
+    pub lacking : holds o xs q ≡ false
+    lacking =
+        holds_none o laws xs q
+        (λ j m.
+        ⊎_elim
+        (λ l. gt_tie o laws q (get_or xs j q) (parted.0 j q (omega arith) l))
+        (λ l. lt_tie o laws q (get_or xs j q) (above j l m))
+        (cases_lt j i))
+
+    module _ (ys : List (K × ℕ)) (e : ys ≡ insert xs i q) where
+      pub put_says : (n : ℕ) → length xs < n → PutSays o xs ys n q (Ok Added)
+      put_says n l = (lacking, l, ap (holds o) e ∙ holds_put o laws i xs q, ap length e ∙ length-insert xs i q h)
+
+      pub put_sorted : IsStrictlySortedBy (pair_order o) ys
+      put_sorted = subst (IsStrictlySortedBy (pair_order o)) (sym e) (sorted_put o laws q i xs s (λ j l m. parted.0 j q (omega arith) l) above)

@@ -1,3 +1,3 @@
 pub mod Rows
-pub mod Firsts
 pub mod Changes
+pub mod Firsts

@@ -1,12 +1,20 @@
-// The search among the pairs of a row.
-ghost use Rattle.std.specs.Prelude.{◌≡◌};
+// The search among the pairs.
+ghost use Rattle.std.specs.Prelude.{◌≡◌, length};
+ghost use Rattle.std.specs.List.Sorted.{IsBinarySearchResult, IsSearchInRange};
 ghost use Rattle.index.specs.Sets.{pair_order};
-ghost use Rattle.ordered.specs.Rows.{items, InOrder, reached, Bound, First, IsKeySearchResult};
+ghost use Rattle.ordered.specs.Rows.{items, reached, First};
 
-use crate::row::Row;
-use crate::start::Start;
+use crate::in_order::InOrder;
 use keys::Key;
 use std::cmp::Ordering;
+
+/// Where a search begins among the pairs of a key: at a place, or after all of them.
+// Not an Option: None would have to mean "after all places of the key".
+#[derive(Clone, Copy)]
+pub(crate) enum Start {
+    At(usize),
+    After,
+}
 
 /// By key, and then by place.
 fn compare_pairs<K: Key>(left: (K, usize), right: (K, usize)) -> Ordering
@@ -25,49 +33,23 @@ fn is_reached<K: Key>(key: K, start: Start, pair: (K, usize)) -> bool
     }
 }
 
-impl<K: Key> Row<K> {
-    /// Where the pairs that are reached begin, by halving.
-    fn seek(&self, key: K, start: Start) -> usize
-        ensures { Bound (reached K.Key.order key start) (items self.now) result }
-    {
-        let mut low = 0;
-        let mut high = self.pairs.len();
-        while low < high {
-            let mid = low + (high - low) / 2;
-            if is_reached(key, start, self.pairs[mid]) {
-                high = mid;
-            } else {
-                low = mid + 1;
-            }
-        }
-        low
-    }
-
+impl<K: Key> InOrder<K> {
     /// Where the pair stands, or else where it would.
     pub(crate) fn find(&self, key: K, place: usize) -> Result<usize, usize>
-        ensures { IsKeySearchResult (pair_order K.Key.order) (items self.now) (key, place) result }
+        ensures within { IsSearchInRange result (length (items self.now)) }
+        ensures position { IsBinarySearchResult (λ y. pair_order K.Key.order y (key, place)) (items self.now) result }
     {
-        let at = self.seek(key, Start::At(place));
-        if at >= self.pairs.len() {
-            return Err(at);
-        }
-        if compare_pairs((key, place), self.pairs[at]).is_eq() {
-            Ok(at)
-        } else {
-            Err(at)
-        }
+        self.pairs
+            .binary_search_by(|pair| compare_pairs(*pair, (key, place)))
     }
 
     /// The first pair that is reached.
     pub(crate) fn first(&self, key: K, start: Start) -> Option<(K, usize)>
-        requires { InOrder K.Key.order self.now }
         ensures { First K.Key.order (items self.now) key start result }
     {
-        let at = self.seek(key, start);
-        if at < self.pairs.len() {
-            Some(self.pairs[at])
-        } else {
-            None
-        }
+        let at = self
+            .pairs
+            .partition_point(|pair| !is_reached(key, start, *pair));
+        self.pairs.get(at).copied()
     }
 }

@@ -17,17 +17,18 @@ returns-then-is_last g c =
     at_upper g.I.Key.Key.order g.I.Key.Key.laws.total _ (g.met.I.Index.distinct c.args.index.now) c.args.key c.args.from c.args.upper c.in_default.ensures
     (is_equal _ (sym c.if-is_last.ensures))
 
-pub returns-in_default-next_key : goal.returns-in_default-next_key
-returns-in_default-next_key g c =
-    no_key g.I.Key.Key.order g.I.Key.Key.laws.total _ (g.met.I.Index.distinct c.args.index.now) c.args.key c.args.from c.args.upper c.in_default.ensures c.in_default-next_key.ensures
+pub returns-in_err-next : goal.returns-in_err-next
+returns-in_err-next g c =
+    rw c.from_residual.ensures
+    (no_key g.I.Key.Key.order g.I.Key.Key.laws.total _ (g.met.I.Index.distinct c.args.index.now) c.args.key c.args.from c.args.upper c.in_default.ensures c.in_err-next.ensures)
 
 pub returns-then-is_beyond-2 : goal.returns-then-is_beyond-2
 returns-then-is_beyond-2 g c =
     key_past g.I.Key.Key.order g.I.Key.Key.laws.total _ (g.met.I.Index.distinct c.args.index.now) c.args.key c.args.from c.args.upper c.in_default.ensures
-    c.in-Some-next_key.next c.in-Some-next_key.ensures (is_greater _ (sym c.if-is_beyond-2.ensures))
+    c.in_ok-next.next c.in_ok-next.ensures (is_greater _ (sym c.if-is_beyond-2.ensures))
 
-pub returns-in-Some-next_place : goal.returns-in-Some-next_place
-returns-in-Some-next_place g c =
+pub returns : goal.returns
+returns g c =
     key_next g.I.Key.Key.order g.I.Key.Key.laws.total _ (g.met.I.Index.distinct c.args.index.now) c.args.key c.args.from c.args.upper c.in_default.ensures
-    c.in-Some-next_key.next c.in-Some-next_key.ensures c.in-Some-next_place.place
-    (not_beyond _ (sym c.if-is_beyond-2.ensures)) c.in-Some-next_place.ensures
+    c.in_ok-next.next c.in_ok-next.ensures c.in_ok-place.place
+    (not_beyond _ (sym c.if-is_beyond-2.ensures)) c.in_ok-place.ensures
