@@ -56,3 +56,9 @@ said (Value x) = value x
 said (Stamp s) = numbers (s ∷ [])
 said (Number n) = numbers (n ∷ [])
 said (Tallied commits aborts) = numbers (commits ∷ aborts ∷ [])
+
+-- the letters of the word, none where a value or numbers are said
+abbrev pub letters : {V : Type 0} → Said V → List ℕ
+letters (word w) = w
+letters (value x) = []
+letters (numbers ns) = []

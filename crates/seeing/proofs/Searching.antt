@@ -1,5 +1,5 @@
 -- What a search through the slots has found, slot by slot. Assumes nothing.
-use Rattle.std.proofs.Common.{◌≡◌, ℕ, ◌+◌, ◌<◌, ◌≤◌, Bool, cond, ◌≢◌, ◌∷◌, length, get_or, drop, Some, None, Option, sym, ap, ◌∙◌, eq-eqb, ne_eqb}
+use Rattle.std.proofs.Common.{◌≡◌, ℕ, ◌+◌, ◌<◌, ◌≤◌, Bool, cond, ◌∷◌, length, get_or, drop, Some, None, Option, sym, ap, ◌∙◌, eq-eqb}
 use Rattle.std.proofs.lemmas.List.{drop_more, drop_all}
 use Rattle.std.specs.Option.{option_map}
 use Rattle.seeing.specs.declared.Transaction.{Transaction}
@@ -11,12 +11,6 @@ head_is ts i x h e = rw (← e) (drop_more ts i None h)
 
 hit : (ts : Slots) (n i : ℕ) (t : Transaction) → i < length ts → get_or ts i None ≡ Some t → t.name ≡ n → found (drop i ts) n i ≡ Some (i, t)
 hit ts n i t h e k = ap (λ (xs : Slots). found xs n i) (head_is ts i (Some t) h e) ∙ ap (λ (b : Bool). cond b (Some (i, t)) (found (drop (i + 1) ts) n (i + 1))) (eq-eqb _ _ k)
-
-pub miss : (ts : Slots) (n i : ℕ) (t : Transaction) → i < length ts → get_or ts i None ≡ Some t → t.name ≢ n → found (drop i ts) n i ≡ found (drop (i + 1) ts) n (i + 1)
-miss ts n i t h e k = ap (λ (xs : Slots). found xs n i) (head_is ts i (Some t) h e) ∙ ap (λ (b : Bool). cond b (Some (i, t)) (found (drop (i + 1) ts) n (i + 1))) (ne_eqb _ _ k)
-
-pub skip : (ts : Slots) (n i : ℕ) → i < length ts → get_or ts i None ≡ None → found (drop i ts) n i ≡ found (drop (i + 1) ts) n (i + 1)
-skip ts n i h e = ap (λ (xs : Slots). found xs n i) (head_is ts i None h e)
 
 -- without the slot, what is found is what `find` gives
 named_by : (ts : Slots) (n : ℕ) (r : Option (ℕ × Transaction)) → r ≡ found ts n 0 → find ts n ≡ option_map (λ x. x.1) r

@@ -1,8 +1,16 @@
-// What a phase says.
+// What a phase and a level say.
 ghost use Rattle.std.specs.Prelude.{◌≡◌};
-ghost use Rattle.seeing.specs.Phases.{phase_to_others, stamped_by, busy_after, is_preparing, is_aborted, is_over};
+ghost use Rattle.seeing.specs.Phases.{phase_to_others, stamped_by, busy_after, is_serializable, is_active, is_preparing, if_preparing, if_validated, is_aborted, is_over};
 
-use crate::Phase;
+use crate::{Level, Phase};
+
+impl Level {
+    pub fn is_serializable(self) -> bool
+        ensures { result ≡ is_serializable self }
+    {
+        self == Level::Serializable
+    }
+}
 
 impl Phase {
     /// The phase as others take it: a doomed transaction counts as aborted, a validated one as preparing.
@@ -13,11 +21,8 @@ impl Phase {
             return Phase::Aborted;
         }
         match self {
-            Phase::Active => Phase::Active,
-            Phase::Preparing(e) => Phase::Preparing(e),
             Phase::Validated(e) => Phase::Preparing(e),
-            Phase::Committed(e) => Phase::Committed(e),
-            Phase::Aborted => Phase::Aborted,
+            phase => phase,
         }
     }
 
@@ -25,13 +30,7 @@ impl Phase {
     pub fn is_stamped_by(self, time: u64) -> bool
         ensures { result ≡ stamped_by time self }
     {
-        match self {
-            Phase::Active => false,
-            Phase::Preparing(e) => e <= time,
-            Phase::Validated(end) => end <= time,
-            Phase::Committed(stamp) => stamp <= time,
-            Phase::Aborted => false,
-        }
+        matches!(self, Phase::Preparing(e) | Phase::Validated(e) | Phase::Committed(e) if e <= time)
     }
 
     /// Active, or preparing or committed with an end stamp above the time.
@@ -40,30 +39,48 @@ impl Phase {
     {
         match self {
             Phase::Active => true,
-            Phase::Preparing(e) => time < e,
-            Phase::Validated(end) => time < end,
-            Phase::Committed(stamp) => time < stamp,
+            Phase::Preparing(e) | Phase::Validated(e) | Phase::Committed(e) => time < e,
             Phase::Aborted => false,
         }
+    }
+
+    pub fn is_active(self) -> bool
+        ensures { result ≡ is_active self }
+    {
+        matches!(self, Phase::Active)
     }
 
     /// Preparing, or validated.
     pub fn is_preparing(self) -> bool
         ensures { result ≡ is_preparing self }
     {
-        match self {
-            Phase::Preparing(_) | Phase::Validated(_) => true,
-            Phase::Active | Phase::Committed(_) | Phase::Aborted => false,
-        }
+        matches!(self, Phase::Preparing(_) | Phase::Validated(_))
     }
 
     pub fn is_aborted(self) -> bool
         ensures { result ≡ is_aborted self }
     {
+        matches!(self, Phase::Aborted)
+    }
+
+    /// The end stamp of a transaction that is to be validated.
+    pub fn if_preparing(self) -> Option<u64>
+        ensures { result ≡ if_preparing self }
+    {
         match self {
-            Phase::Aborted => true,
-            Phase::Active | Phase::Preparing(_) | Phase::Validated(_) | Phase::Committed(_) =>
-                false,
+            Phase::Preparing(end) => Some(end),
+            _ => None,
+        }
+    }
+
+    /// The end stamp of a transaction that is to be committed.
+    // Shaped as the one above: a case of an enum can't be a parameter.
+    pub fn if_validated(self) -> Option<u64>
+        ensures { result ≡ if_validated self }
+    {
+        match self {
+            Phase::Validated(end) => Some(end),
+            _ => None,
         }
     }
 
@@ -71,9 +88,6 @@ impl Phase {
     pub fn is_over(self) -> bool
         ensures { result ≡ is_over self }
     {
-        match self {
-            Phase::Committed(_) | Phase::Aborted => true,
-            Phase::Active | Phase::Preparing(_) | Phase::Validated(_) => false,
-        }
+        matches!(self, Phase::Committed(_) | Phase::Aborted)
     }
 }

@@ -13,11 +13,11 @@ pub fn find(slots: &Slots, name: u64) -> Option<(usize, Transaction)>
     ensures named { find slots.now name ≡ option_map (λ x. x.1) result }
     ensures inside { IfSome result (λ x. x.0 < 64) }
 {
-    for i in 0..64 {
-        if let Some(t) = slots[i] {
-            if t.name == name {
-                return Some((i, t));
-            }
+    for (i, slot) in slots.iter().enumerate() {
+        if let Some(t) = slot
+            && t.name == name
+        {
+            return Some((i, *t));
         }
     }
     None
@@ -27,69 +27,71 @@ pub fn find(slots: &Slots, name: u64) -> Option<(usize, Transaction)>
 pub fn phase_of(slots: &Slots, name: u64) -> Phase
     ensures { result ≡ seen_phase (find slots.now name) }
 {
-    match find(slots, name) {
-        None => Phase::Aborted,
-        Some((_, t)) => t.phase.to_others(t.doomed),
-    }
+    find(slots, name).map_or(Phase::Aborted, |(_, t)| t.phase.to_others(t.doomed))
 }
 
-/// For the reader it has come about by the time.
-pub fn has_happened(slots: &Slots, reader: u64, time: u64, end: End) -> bool
-    ensures { result ≡ happened slots.now reader time end }
-{
-    match end {
-        End::Stamp(s) => s <= time,
-        End::Owner(m) => m == reader || phase_of(slots, m).is_stamped_by(time),
-        End::Open => false,
-    }
+/// Whose eyes look at the versions, and at what time.
+#[derive(Clone, Copy)]
+pub struct Sight<'a> {
+    pub slots: &'a Slots,
+    pub reader: u64,
+    pub time: u64,
 }
 
-// The preparing transaction, other than the reader, that it names.
-fn preparing_owner(slots: &Slots, reader: u64, end: End) -> Option<u64>
-    ensures { result ≡ preparing_other slots.now reader end }
-{
-    match end {
-        End::Stamp(_) => None,
-        End::Owner(m) => {
-            if m != reader && phase_of(slots, m).is_preparing() {
-                Some(m)
-            } else {
-                None
-            }
+impl<'a> Sight<'a> {
+    /// As the reader sees from its begin stamp on.
+    pub fn at_begin(slots: &'a Slots, reader: u64) -> Sight<'a>
+        ensures slots { result.slots.now ≡ slots.now }
+        ensures reader { result.reader ≡ reader }
+        ensures time { result.time ≡ reader }
+    {
+        Sight {
+            slots,
+            reader,
+            time: reader,
         }
-        End::Open => None,
     }
-}
 
-/// The reader sees the version at the time: the version has begun and has not ended.
-pub fn sees<K: Copy, V: Copy>(
-    slots: &Slots,
-    reader: u64,
-    time: u64,
-    version: &Version<K, V>,
-) -> bool
-    ensures { result ≡ visible slots.now reader time version.now }
-{
-    has_happened(slots, reader, time, version.begin.as_end())
-        && !has_happened(slots, reader, time, version.end)
-}
-
-/// Whom the reader waits on once it has tested the version at the time.
-pub fn waits_for<K: Copy, V: Copy>(
-    slots: &Slots,
-    reader: u64,
-    time: u64,
-    version: &Version<K, V>,
-) -> Option<u64>
-    ensures { result ≡ waits_for slots.now reader time version.now }
-{
-    let begin = version.begin.as_end();
-    if !has_happened(slots, reader, time, begin) {
-        return None;
+    /// For the reader it has come about by the time.
+    pub fn has_happened(&self, end: End) -> bool
+        ensures { result ≡ happened self.now.slots.now self.now.reader self.now.time end }
+    {
+        match end {
+            End::Stamp(s) => s <= self.time,
+            End::Owner(m) => m == self.reader || phase_of(self.slots, m).is_stamped_by(self.time),
+            End::Open => false,
+        }
     }
-    if has_happened(slots, reader, time, version.end) {
-        preparing_owner(slots, reader, version.end)
-    } else {
-        preparing_owner(slots, reader, begin)
+
+    // The preparing transaction, other than the reader, that it names.
+    fn preparing_owner(&self, end: End) -> Option<u64>
+        ensures { result ≡ preparing_other self.now.slots.now self.now.reader end }
+    {
+        match end {
+            End::Owner(m) if m != self.reader && phase_of(self.slots, m).is_preparing() => Some(m),
+            _ => None,
+        }
+    }
+
+    /// The reader sees the version at the time: the version has begun and has not ended.
+    pub fn sees<K: Copy, V: Copy>(&self, version: &Version<K, V>) -> bool
+        ensures { result ≡ visible self.now.slots.now self.now.reader self.now.time version.now }
+    {
+        self.has_happened(version.begin.into()) && !self.has_happened(version.end)
+    }
+
+    /// Whom the reader waits on once it has tested the version at the time.
+    pub fn waits_for<K: Copy, V: Copy>(&self, version: &Version<K, V>) -> Option<u64>
+        ensures { result ≡ waits_for self.now.slots.now self.now.reader self.now.time version.now }
+    {
+        let begin = version.begin.into();
+        if !self.has_happened(begin) {
+            return None;
+        }
+        if self.has_happened(version.end) {
+            self.preparing_owner(version.end)
+        } else {
+            self.preparing_owner(begin)
+        }
     }
 }
