@@ -107,11 +107,10 @@ module _ {K V : Type 0} (order : K → K → Ordering) where
       let r = rule order (chosen d a) (world_of d) a in
       (desk_of r.0 (after d a), r.1)
 
-  -- a call that finds the desk d leaves d' and answers r, with the free entries found from the hints that d' has;
-  -- if those are the hints after it, this is what is performed, and so the call answers as the rules say for some choice
-  abbrev pub AnswersByHints : Desk K V → Desk K V → Call K V → Result (Answer V) Refusal → Type 0
-  AnswersByHints d d' a r = rule order (found_from (hints_of d'.store) d) (world_of d) a ≡ (world_of d', r)
+  -- a call that finds the desk d leaves d' and answers r
+  abbrev pub Performs : Desk K V → Desk K V → Call K V → Result (Answer V) Refusal → Type 0
+  Performs d d' a r = performed d a ≡ (d', r)
 
   -- the same for a call that has no row table: whatever rows there are, they stay
-  abbrev pub AnswersByHintsAround : (List (Row K V) → Desk K V) → (List (Row K V) → Desk K V) → Call K V → Result (Answer V) Refusal → Type 0
-  AnswersByHintsAround d d' a r = (rows : List (Row K V)) → AnswersByHints (d rows) (d' rows) a r
+  abbrev pub PerformsAround : (List (Row K V) → Desk K V) → (List (Row K V) → Desk K V) → Call K V → Result (Answer V) Refusal → Type 0
+  PerformsAround d d' a r = (rows : List (Row K V)) → Performs (d rows) (d' rows) a r

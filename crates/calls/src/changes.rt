@@ -3,7 +3,7 @@ ghost use Rattle.std.specs.Prelude.{◌≡◌};
 ghost use Rattle.rules.specs.declared.Call.TheVariants as call;
 ghost use Rattle.rules.specs.declared.BookCall.TheVariants as book;
 ghost use Rattle.rules.specs.Index.{meaning};
-ghost use Rattle.calls.specs.Performing.{desk, Hinted, hints_after, AnswersByHintsAround};
+ghost use Rattle.calls.specs.Performing.{desk, PerformsAround};
 ghost use Rattle.rules.specs.Worlds.{around};
 ghost use Rattle.calls.specs.Promises.{AnswersAround};
 
@@ -13,6 +13,7 @@ use index::Index;
 use rules::{Answer, Entry, Note, Refusal};
 use seeing::Version;
 
+// Insert and update are of one shape, but each names a rule of its own: one function for both would take the call as a parameter.
 impl TableStore {
     /// "present", or "done" with a new version.
     pub fn insert<I: Index, V: Copy>(
@@ -25,8 +26,7 @@ impl TableStore {
         value: V,
     ) -> Result<Answer<V>, Refusal>
         ensures answers { AnswersAround I.Key.Key.order (around self.old.store versions.old notes.old (meaning I.Key.Key.order (I.pairs index.old) (I.limit index.old))) (around self.new.store versions.new notes.new (meaning I.Key.Key.order (I.pairs index.new) (I.limit index.new))) (call.Book transaction (book.Insert key value)) result }
-        ensures by_hints { AnswersByHintsAround I.Key.Key.order (desk self.old versions.old notes.old (meaning I.Key.Key.order (I.pairs index.old) (I.limit index.old))) (desk self.new versions.new notes.new (meaning I.Key.Key.order (I.pairs index.new) (I.limit index.new))) (call.Book transaction (book.Insert key value)) result }
-        ensures hints { Hinted self.new (hints_after self.old versions.old notes.old (call.Book transaction (book.Insert key value))) }
+        ensures exact { PerformsAround I.Key.Key.order (desk self.old versions.old notes.old (meaning I.Key.Key.order (I.pairs index.old) (I.limit index.old))) (desk self.new versions.new notes.new (meaning I.Key.Key.order (I.pairs index.new) (I.limit index.new))) (call.Book transaction (book.Insert key value)) result }
     {
         self.note_hint = self.note_place(notes, transaction);
         self.version_hint = self.version_place(versions);
@@ -54,8 +54,7 @@ impl TableStore {
         value: V,
     ) -> Result<Answer<V>, Refusal>
         ensures answers { AnswersAround I.Key.Key.order (around self.old.store versions.old notes.old (meaning I.Key.Key.order (I.pairs index.old) (I.limit index.old))) (around self.new.store versions.new notes.new (meaning I.Key.Key.order (I.pairs index.new) (I.limit index.new))) (call.Book transaction (book.Update key value)) result }
-        ensures by_hints { AnswersByHintsAround I.Key.Key.order (desk self.old versions.old notes.old (meaning I.Key.Key.order (I.pairs index.old) (I.limit index.old))) (desk self.new versions.new notes.new (meaning I.Key.Key.order (I.pairs index.new) (I.limit index.new))) (call.Book transaction (book.Update key value)) result }
-        ensures hints { Hinted self.new (hints_after self.old versions.old notes.old (call.Book transaction (book.Update key value))) }
+        ensures exact { PerformsAround I.Key.Key.order (desk self.old versions.old notes.old (meaning I.Key.Key.order (I.pairs index.old) (I.limit index.old))) (desk self.new versions.new notes.new (meaning I.Key.Key.order (I.pairs index.new) (I.limit index.new))) (call.Book transaction (book.Update key value)) result }
     {
         self.note_hint = self.note_place(notes, transaction);
         self.version_hint = self.version_place(versions);
@@ -82,8 +81,7 @@ impl TableStore {
         key: I::Key,
     ) -> Result<Answer<V>, Refusal>
         ensures answers { AnswersAround I.Key.Key.order (around self.old.store versions.old notes.old (meaning I.Key.Key.order (I.pairs index.old) (I.limit index.old))) (around self.new.store versions.new notes.new (meaning I.Key.Key.order (I.pairs index.new) (I.limit index.new))) (call.Book transaction (book.Delete key)) result }
-        ensures by_hints { AnswersByHintsAround I.Key.Key.order (desk self.old versions.old notes.old (meaning I.Key.Key.order (I.pairs index.old) (I.limit index.old))) (desk self.new versions.new notes.new (meaning I.Key.Key.order (I.pairs index.new) (I.limit index.new))) (call.Book transaction (book.Delete key)) result }
-        ensures hints { Hinted self.new (hints_after self.old versions.old notes.old (call.Book transaction (book.Delete key))) }
+        ensures exact { PerformsAround I.Key.Key.order (desk self.old versions.old notes.old (meaning I.Key.Key.order (I.pairs index.old) (I.limit index.old))) (desk self.new versions.new notes.new (meaning I.Key.Key.order (I.pairs index.new) (I.limit index.new))) (call.Book transaction (book.Delete key)) result }
     {
         self.note_hint = self.note_place(notes, transaction);
         self.version_hint = self.version_place(versions);

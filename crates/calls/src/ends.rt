@@ -2,7 +2,7 @@
 ghost use Rattle.std.specs.Prelude.{◌≡◌};
 ghost use Rattle.rules.specs.declared.Call.TheVariants as call;
 ghost use Rattle.rules.specs.Index.{meaning};
-ghost use Rattle.calls.specs.Performing.{desk, Hinted, hints_after, AnswersByHintsAround};
+ghost use Rattle.calls.specs.Performing.{desk, PerformsAround};
 ghost use Rattle.rules.specs.Worlds.{around};
 ghost use Rattle.calls.specs.Promises.{AnswersAround};
 
@@ -23,8 +23,7 @@ impl TableStore {
         transaction: u64,
     ) -> Result<Answer<V>, Refusal>
         ensures answers { AnswersAround I.Key.Key.order (around self.old.store versions.now notes.now (meaning I.Key.Key.order (I.pairs index.now) (I.limit index.now))) (around self.new.store versions.now notes.now (meaning I.Key.Key.order (I.pairs index.now) (I.limit index.now))) (call.Validate transaction) result }
-        ensures by_hints { AnswersByHintsAround I.Key.Key.order (desk self.old versions.now notes.now (meaning I.Key.Key.order (I.pairs index.now) (I.limit index.now))) (desk self.new versions.now notes.now (meaning I.Key.Key.order (I.pairs index.now) (I.limit index.now))) (call.Validate transaction) result }
-        ensures hints { Hinted self.new (hints_after self.old versions.now notes.now (call.Validate transaction)) }
+        ensures exact { PerformsAround I.Key.Key.order (desk self.old versions.now notes.now (meaning I.Key.Key.order (I.pairs index.now) (I.limit index.now))) (desk self.new versions.now notes.now (meaning I.Key.Key.order (I.pairs index.now) (I.limit index.now))) (call.Validate transaction) result }
     {
         validate(&mut self.store, versions, notes, index, transaction)
     }
@@ -38,8 +37,7 @@ impl TableStore {
         transaction: u64,
     ) -> Result<Answer<V>, Refusal>
         ensures answers { AnswersAround I.Key.Key.order (around self.old.store versions.now notes.now (meaning I.Key.Key.order (I.pairs index.now) (I.limit index.now))) (around self.new.store versions.now notes.now (meaning I.Key.Key.order (I.pairs index.now) (I.limit index.now))) (call.Commit transaction) result }
-        ensures by_hints { AnswersByHintsAround I.Key.Key.order (desk self.old versions.now notes.now (meaning I.Key.Key.order (I.pairs index.now) (I.limit index.now))) (desk self.new versions.now notes.now (meaning I.Key.Key.order (I.pairs index.now) (I.limit index.now))) (call.Commit transaction) result }
-        ensures hints { Hinted self.new (hints_after self.old versions.now notes.now (call.Commit transaction)) }
+        ensures exact { PerformsAround I.Key.Key.order (desk self.old versions.now notes.now (meaning I.Key.Key.order (I.pairs index.now) (I.limit index.now))) (desk self.new versions.now notes.now (meaning I.Key.Key.order (I.pairs index.now) (I.limit index.now))) (call.Commit transaction) result }
     {
         commit(&mut self.store, versions, notes, index, transaction)
     }
@@ -53,8 +51,7 @@ impl TableStore {
         transaction: u64,
     ) -> Result<Answer<V>, Refusal>
         ensures answers { AnswersAround I.Key.Key.order (around self.old.store versions.now notes.now (meaning I.Key.Key.order (I.pairs index.now) (I.limit index.now))) (around self.new.store versions.now notes.now (meaning I.Key.Key.order (I.pairs index.now) (I.limit index.now))) (call.Abort transaction) result }
-        ensures by_hints { AnswersByHintsAround I.Key.Key.order (desk self.old versions.now notes.now (meaning I.Key.Key.order (I.pairs index.now) (I.limit index.now))) (desk self.new versions.now notes.now (meaning I.Key.Key.order (I.pairs index.now) (I.limit index.now))) (call.Abort transaction) result }
-        ensures hints { Hinted self.new (hints_after self.old versions.now notes.now (call.Abort transaction)) }
+        ensures exact { PerformsAround I.Key.Key.order (desk self.old versions.now notes.now (meaning I.Key.Key.order (I.pairs index.now) (I.limit index.now))) (desk self.new versions.now notes.now (meaning I.Key.Key.order (I.pairs index.now) (I.limit index.now))) (call.Abort transaction) result }
     {
         abort(&mut self.store, versions, notes, index, transaction)
     }
@@ -68,8 +65,7 @@ impl TableStore {
         transaction: u64,
     ) -> Result<Answer<V>, Refusal>
         ensures answers { AnswersAround I.Key.Key.order (around self.old.store versions.old notes.old (meaning I.Key.Key.order (I.pairs index.now) (I.limit index.now))) (around self.new.store versions.new notes.new (meaning I.Key.Key.order (I.pairs index.now) (I.limit index.now))) (call.Finish transaction) result }
-        ensures by_hints { AnswersByHintsAround I.Key.Key.order (desk self.old versions.old notes.old (meaning I.Key.Key.order (I.pairs index.now) (I.limit index.now))) (desk self.new versions.new notes.new (meaning I.Key.Key.order (I.pairs index.now) (I.limit index.now))) (call.Finish transaction) result }
-        ensures hints { Hinted self.new (hints_after self.old versions.old notes.old (call.Finish transaction)) }
+        ensures exact { PerformsAround I.Key.Key.order (desk self.old versions.old notes.old (meaning I.Key.Key.order (I.pairs index.now) (I.limit index.now))) (desk self.new versions.new notes.new (meaning I.Key.Key.order (I.pairs index.now) (I.limit index.now))) (call.Finish transaction) result }
     {
         finish(&mut self.store, versions, notes, index, transaction)
     }
@@ -82,7 +78,7 @@ impl TableStore {
         index: &mut I,
     ) -> Result<Answer<V>, Refusal>
         ensures answers { AnswersAround I.Key.Key.order (around self.now.store versions.old notes.now (meaning I.Key.Key.order (I.pairs index.old) (I.limit index.old))) (around self.now.store versions.new notes.now (meaning I.Key.Key.order (I.pairs index.new) (I.limit index.new))) call.Sweep result }
-        ensures by_hints { AnswersByHintsAround I.Key.Key.order (desk self.now versions.old notes.now (meaning I.Key.Key.order (I.pairs index.old) (I.limit index.old))) (desk self.now versions.new notes.now (meaning I.Key.Key.order (I.pairs index.new) (I.limit index.new))) call.Sweep result }
+        ensures exact { PerformsAround I.Key.Key.order (desk self.now versions.old notes.now (meaning I.Key.Key.order (I.pairs index.old) (I.limit index.old))) (desk self.now versions.new notes.now (meaning I.Key.Key.order (I.pairs index.new) (I.limit index.new))) call.Sweep result }
     {
         sweep(&self.store, versions, notes, index)
     }

@@ -3,7 +3,7 @@ ghost use Rattle.rules.specs.Worlds.{around};
 ghost use Rattle.std.specs.Prelude.{◌≡◌};
 ghost use Rattle.rules.specs.Index.{meaning};
 ghost use Rattle.calls.specs.Promises.{Answers, GoesOn, Begins};
-ghost use Rattle.calls.specs.Performing.{desk, performed};
+ghost use Rattle.calls.specs.Performing.{desk, Performs};
 
 use crate::TableStore;
 use index::Index;
@@ -21,7 +21,7 @@ impl TableStore {
         transaction: u64,
         call: BookCall<I::Key, V>,
     ) -> Result<Answer<V>, Refusal>
-        ensures { performed I.Key.Key.order (desk self.old versions.old notes.old (meaning I.Key.Key.order (I.pairs index.old) (I.limit index.old)) rows.old) (Call.Book transaction call) ≡ (desk self.new versions.new notes.new (meaning I.Key.Key.order (I.pairs index.new) (I.limit index.new)) rows.new, result) }
+        ensures { Performs I.Key.Key.order (desk self.old versions.old notes.old (meaning I.Key.Key.order (I.pairs index.old) (I.limit index.old)) rows.old) (desk self.new versions.new notes.new (meaning I.Key.Key.order (I.pairs index.new) (I.limit index.new)) rows.new) (Call.Book transaction call) result }
     {
         match call {
             BookCall::Read(key) => self.read(versions, notes, index, transaction, key),
@@ -63,7 +63,7 @@ impl TableStore {
         rows: &mut [Row<I::Key, V>],
         call: Call<I::Key, V>,
     ) -> Result<Answer<V>, Refusal>
-        ensures { performed I.Key.Key.order (desk self.old versions.old notes.old (meaning I.Key.Key.order (I.pairs index.old) (I.limit index.old)) rows.old) call ≡ (desk self.new versions.new notes.new (meaning I.Key.Key.order (I.pairs index.new) (I.limit index.new)) rows.new, result) }
+        ensures { Performs I.Key.Key.order (desk self.old versions.old notes.old (meaning I.Key.Key.order (I.pairs index.old) (I.limit index.old)) rows.old) (desk self.new versions.new notes.new (meaning I.Key.Key.order (I.pairs index.new) (I.limit index.new)) rows.new) call result }
     {
         match call {
             Call::Open(stamp) => self.open(versions, notes, index, stamp),
@@ -88,7 +88,7 @@ impl TableStore {
         rows: &mut [Row<I::Key, V>],
         call: Call<I::Key, V>,
     ) -> Result<Answer<V>, Refusal>
-        ensures exact { performed I.Key.Key.order (desk self.old versions.old notes.old (meaning I.Key.Key.order (I.pairs index.old) (I.limit index.old)) rows.old) call ≡ (desk self.new versions.new notes.new (meaning I.Key.Key.order (I.pairs index.new) (I.limit index.new)) rows.new, result) }
+        ensures exact { Performs I.Key.Key.order (desk self.old versions.old notes.old (meaning I.Key.Key.order (I.pairs index.old) (I.limit index.old)) rows.old) (desk self.new versions.new notes.new (meaning I.Key.Key.order (I.pairs index.new) (I.limit index.new)) rows.new) call result }
         ensures answers { Answers I.Key.Key.order (around self.old.store versions.old notes.old (meaning I.Key.Key.order (I.pairs index.old) (I.limit index.old)) rows.old) (around self.new.store versions.new notes.new (meaning I.Key.Key.order (I.pairs index.new) (I.limit index.new)) rows.new) call result }
         ensures law { GoesOn I.Key.Key.order (around self.old.store versions.old notes.old (meaning I.Key.Key.order (I.pairs index.old) (I.limit index.old)) rows.old) (around self.new.store versions.new notes.new (meaning I.Key.Key.order (I.pairs index.new) (I.limit index.new)) rows.new) call result }
         ensures opens { Begins I.Key.Key.order (around self.new.store versions.new notes.new (meaning I.Key.Key.order (I.pairs index.new) (I.limit index.new)) rows.new) call result }

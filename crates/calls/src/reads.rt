@@ -3,7 +3,7 @@ ghost use Rattle.std.specs.Prelude.{◌≡◌};
 ghost use Rattle.rules.specs.declared.Call.TheVariants as call;
 ghost use Rattle.rules.specs.declared.BookCall.TheVariants as book;
 ghost use Rattle.rules.specs.Index.{meaning};
-ghost use Rattle.calls.specs.Performing.{desk, Hinted, hints_after, AnswersByHints, AnswersByHintsAround};
+ghost use Rattle.calls.specs.Performing.{desk, Performs, PerformsAround};
 ghost use Rattle.rules.specs.Worlds.{around};
 ghost use Rattle.calls.specs.Promises.{AnswersAround, Answers};
 
@@ -24,8 +24,7 @@ impl TableStore {
         key: I::Key,
     ) -> Result<Answer<V>, Refusal>
         ensures answers { AnswersAround I.Key.Key.order (around self.old.store versions.now notes.old (meaning I.Key.Key.order (I.pairs index.now) (I.limit index.now))) (around self.new.store versions.now notes.new (meaning I.Key.Key.order (I.pairs index.now) (I.limit index.now))) (call.Book transaction (book.Read key)) result }
-        ensures by_hints { AnswersByHintsAround I.Key.Key.order (desk self.old versions.now notes.old (meaning I.Key.Key.order (I.pairs index.now) (I.limit index.now))) (desk self.new versions.now notes.new (meaning I.Key.Key.order (I.pairs index.now) (I.limit index.now))) (call.Book transaction (book.Read key)) result }
-        ensures hints { Hinted self.new (hints_after self.old versions.now notes.old (call.Book transaction (book.Read key))) }
+        ensures exact { PerformsAround I.Key.Key.order (desk self.old versions.now notes.old (meaning I.Key.Key.order (I.pairs index.now) (I.limit index.now))) (desk self.new versions.now notes.new (meaning I.Key.Key.order (I.pairs index.now) (I.limit index.now))) (call.Book transaction (book.Read key)) result }
     {
         self.note_hint = self.note_place(notes, transaction);
         read(
@@ -51,8 +50,7 @@ impl TableStore {
         rows: &mut [Row<I::Key, V>],
     ) -> Result<Answer<V>, Refusal>
         ensures answers { Answers I.Key.Key.order (around self.old.store versions.now notes.old (meaning I.Key.Key.order (I.pairs index.now) (I.limit index.now)) rows.old) (around self.new.store versions.now notes.new (meaning I.Key.Key.order (I.pairs index.now) (I.limit index.now)) rows.new) (call.Book transaction (book.Scan lower upper)) result }
-        ensures by_hints { AnswersByHints I.Key.Key.order (desk self.old versions.now notes.old (meaning I.Key.Key.order (I.pairs index.now) (I.limit index.now)) rows.old) (desk self.new versions.now notes.new (meaning I.Key.Key.order (I.pairs index.now) (I.limit index.now)) rows.new) (call.Book transaction (book.Scan lower upper)) result }
-        ensures hints { Hinted self.new (hints_after self.old versions.now notes.old (call.Book transaction (book.Scan lower upper))) }
+        ensures exact { Performs I.Key.Key.order (desk self.old versions.now notes.old (meaning I.Key.Key.order (I.pairs index.now) (I.limit index.now)) rows.old) (desk self.new versions.now notes.new (meaning I.Key.Key.order (I.pairs index.now) (I.limit index.now)) rows.new) (call.Book transaction (book.Scan lower upper)) result }
     {
         self.note_hint = self.note_place(notes, transaction);
         scan(

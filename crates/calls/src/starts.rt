@@ -2,7 +2,7 @@
 ghost use Rattle.std.specs.Prelude.{◌≡◌};
 ghost use Rattle.rules.specs.declared.Call.TheVariants as call;
 ghost use Rattle.rules.specs.Index.{meaning};
-ghost use Rattle.calls.specs.Performing.{desk, Hinted, hints_after, AnswersByHintsAround};
+ghost use Rattle.calls.specs.Performing.{desk, PerformsAround};
 ghost use Rattle.rules.specs.Worlds.{around};
 ghost use Rattle.calls.specs.Promises.{AnswersAround};
 
@@ -22,8 +22,7 @@ impl TableStore {
         stamp: u64,
     ) -> Result<Answer<V>, Refusal>
         ensures answers { AnswersAround I.Key.Key.order (around self.old.store versions.old notes.old (meaning I.Key.Key.order (I.pairs index.old) (I.limit index.old))) (around self.new.store versions.new notes.new (meaning I.Key.Key.order (I.pairs index.new) (I.limit index.new))) (call.Open stamp) result }
-        ensures by_hints { AnswersByHintsAround I.Key.Key.order (desk self.old versions.old notes.old (meaning I.Key.Key.order (I.pairs index.old) (I.limit index.old))) (desk self.new versions.new notes.new (meaning I.Key.Key.order (I.pairs index.new) (I.limit index.new))) (call.Open stamp) result }
-        ensures hints { Hinted self.new (hints_after self.old versions.old notes.old (call.Open stamp)) }
+        ensures exact { PerformsAround I.Key.Key.order (desk self.old versions.old notes.old (meaning I.Key.Key.order (I.pairs index.old) (I.limit index.old))) (desk self.new versions.new notes.new (meaning I.Key.Key.order (I.pairs index.new) (I.limit index.new))) (call.Open stamp) result }
     {
         self.version_hint = 0;
         self.note_hint = 0;
@@ -39,8 +38,7 @@ impl TableStore {
         level: Level,
     ) -> Result<Answer<V>, Refusal>
         ensures answers { AnswersAround I.Key.Key.order (around self.old.store versions.now notes.now (meaning I.Key.Key.order (I.pairs index.now) (I.limit index.now))) (around self.new.store versions.now notes.now (meaning I.Key.Key.order (I.pairs index.now) (I.limit index.now))) (call.Begin level) result }
-        ensures by_hints { AnswersByHintsAround I.Key.Key.order (desk self.old versions.now notes.now (meaning I.Key.Key.order (I.pairs index.now) (I.limit index.now))) (desk self.new versions.now notes.now (meaning I.Key.Key.order (I.pairs index.now) (I.limit index.now))) (call.Begin level) result }
-        ensures hints { Hinted self.new (hints_after self.old versions.now notes.now (call.Begin level)) }
+        ensures exact { PerformsAround I.Key.Key.order (desk self.old versions.now notes.now (meaning I.Key.Key.order (I.pairs index.now) (I.limit index.now))) (desk self.new versions.now notes.now (meaning I.Key.Key.order (I.pairs index.now) (I.limit index.now))) (call.Begin level) result }
     {
         begin(&mut self.store, versions, notes, index, level)
     }
@@ -54,8 +52,7 @@ impl TableStore {
         transaction: u64,
     ) -> Result<Answer<V>, Refusal>
         ensures answers { AnswersAround I.Key.Key.order (around self.old.store versions.now notes.now (meaning I.Key.Key.order (I.pairs index.now) (I.limit index.now))) (around self.new.store versions.now notes.now (meaning I.Key.Key.order (I.pairs index.now) (I.limit index.now))) (call.Prepare transaction) result }
-        ensures by_hints { AnswersByHintsAround I.Key.Key.order (desk self.old versions.now notes.now (meaning I.Key.Key.order (I.pairs index.now) (I.limit index.now))) (desk self.new versions.now notes.now (meaning I.Key.Key.order (I.pairs index.now) (I.limit index.now))) (call.Prepare transaction) result }
-        ensures hints { Hinted self.new (hints_after self.old versions.now notes.now (call.Prepare transaction)) }
+        ensures exact { PerformsAround I.Key.Key.order (desk self.old versions.now notes.now (meaning I.Key.Key.order (I.pairs index.now) (I.limit index.now))) (desk self.new versions.now notes.now (meaning I.Key.Key.order (I.pairs index.now) (I.limit index.now))) (call.Prepare transaction) result }
     {
         prepare(&mut self.store, versions, notes, index, transaction)
     }
@@ -68,7 +65,7 @@ impl TableStore {
         index: &I,
     ) -> Result<Answer<V>, Refusal>
         ensures answers { AnswersAround I.Key.Key.order (around self.now.store versions.now notes.now (meaning I.Key.Key.order (I.pairs index.now) (I.limit index.now))) (around self.now.store versions.now notes.now (meaning I.Key.Key.order (I.pairs index.now) (I.limit index.now))) call.Tally result }
-        ensures by_hints { AnswersByHintsAround I.Key.Key.order (desk self.now versions.now notes.now (meaning I.Key.Key.order (I.pairs index.now) (I.limit index.now))) (desk self.now versions.now notes.now (meaning I.Key.Key.order (I.pairs index.now) (I.limit index.now))) call.Tally result }
+        ensures exact { PerformsAround I.Key.Key.order (desk self.now versions.now notes.now (meaning I.Key.Key.order (I.pairs index.now) (I.limit index.now))) (desk self.now versions.now notes.now (meaning I.Key.Key.order (I.pairs index.now) (I.limit index.now))) call.Tally result }
     {
         tally(&self.store, versions, notes, index)
     }

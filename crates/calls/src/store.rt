@@ -5,11 +5,13 @@ ghost use Rattle.calls.specs.Promises.{never_opened};
 ghost use Rattle.calls.specs.Performing.{new_store, version_place, note_place, note_place_for};
 
 use rules::{Entry, Store};
-use seeing::{Level, Transaction, find};
+use seeing::{Transaction, find};
 use tables::free_place;
 
 /// A store. The caller keeps its version table, its note table and its index, and lends them to each call.
 /// The hints say where the search for a free entry begins.
+// Tables and index are parameters of their own, slices that are shared where a call only reads: a struct that lends
+// all of them would borrow all of them for writing.
 #[derive(Clone, Copy)]
 pub struct TableStore {
     pub(crate) store: Store,
@@ -32,12 +34,9 @@ fn note_place_for<T: Copy>(
 ) -> usize
     ensures { result ≡ note_place_for found hint notes.now }
 {
-    let Some((_, t)) = found else {
-        return hint;
-    };
-    match t.level {
-        Level::Serializable => place_from(notes, hint),
-        Level::Snapshot => hint,
+    match found {
+        Some((_, t)) if t.level.is_serializable() => place_from(notes, hint),
+        _ => hint,
     }
 }
 

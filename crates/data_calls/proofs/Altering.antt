@@ -1,5 +1,5 @@
 -- An update or a delete, exit by exit. Assumes nothing.
-use Rattle.std.proofs.Common.{◌≡◌, ℕ, Bool, true, false, cond, List, length, set, Some, None, Ok, Err, Option, Ordering, sym, refl, ap, ◌∙◌, arith}
+use Rattle.std.proofs.Common.{◌≡◌, ℕ, Bool, true, false, cond, List, length, set, Some, None, Ok, Err, Option, Ordering, sym, refl, ap, ◌∙◌}
 use Rattle.seeing.specs.declared.End.TheVariants as end
 use Rattle.rules.specs.declared.Entry.{Entry}
 use Rattle.rules.specs.declared.Store.{Store}
@@ -24,9 +24,6 @@ use Rattle.rules.specs.Reaching.{Met}
 use Rattle.rules.specs.BookRules.{conclude, conflict, adding_if, book_rule, alter_rule}
 use Rattle.seeing.specs.Changing.{altered, with_end, made_by, not_writable}
 use Rattle.tables.specs.Places.{pick}
-use Rattle.data_calls.specs.declared.cases.AlterCase.{AlterCase}
-use Rattle.data_calls.specs.declared.cases.AlterCase.TheVariants as altering
-use Rattle.data_calls.specs.Cases.{alter_case}
 use Rattle.data_calls.specs.Calling.{world, picked, AnswersFrom, approached, concluding, call_of}
 use Rattle.tables.specs.Steps.{Gives}
 use Rattle.tables.proofs.Steps.{go_on, give_up, left_as_found}
@@ -35,25 +32,6 @@ use Rattle.data_calls.proofs.Shapes.{ruled, answers_by, came, conclude_ends, con
 rule_of : {K V : Type 0} (o : K → K → Ordering) (c : Choice) (w : World K V) (n : ℕ) (k : K) (new : Option V) → book_rule o c w n (call_of k new) ≡ alter_rule o c w n k new
 rule_of o c w n k None = refl
 rule_of o c w n k (Some x) = refl
-
--- what the case says of the version
-abbrev cases : Bool → Bool → AlterCase
-cases own locked = cond own altering.Own (cond locked altering.Conflict altering.Free)
-
-own_case : (a b : Bool) → altering.Own ≡ cases a b → a ≡ true
-own_case true b e = refl
-own_case false true e = let z : ◌≡◌ {A = ℕ} 0 1 = cc in absurd (omega arith)
-own_case false false e = let z : ◌≡◌ {A = ℕ} 0 1 = cc in absurd (omega arith)
-
-conflict_case : (a b : Bool) → altering.Conflict ≡ cases a b → (a ≡ false) × (b ≡ true)
-conflict_case true b e = let z : ◌≡◌ {A = ℕ} 0 1 = cc in absurd (omega arith)
-conflict_case false true e = (refl, refl)
-conflict_case false false e = let z : ◌≡◌ {A = ℕ} 0 1 = cc in absurd (omega arith)
-
-free_case : (a b : Bool) → altering.Free ≡ cases a b → (a ≡ false) × (b ≡ false)
-free_case true b e = let z : ◌≡◌ {A = ℕ} 0 1 = cc in absurd (omega arith)
-free_case false true e = let z : ◌≡◌ {A = ℕ} 0 1 = cc in absurd (omega arith)
-free_case false false e = (refl, refl)
 
 module _ {K V : Type 0} (o : K → K → Ordering) (vh nh : ℕ) (rows : List (Row K V)) (s : Store) (vs : List (Entry (Version K V))) (ns : List (Entry (Note K))) (xs : List (K × ℕ)) (limit n : ℕ) (k : K) (new : Option V) where
   abbrev before : World K V
@@ -94,7 +72,7 @@ module _ {K V : Type 0} (o : K → K → Ordering) (vh nh : ℕ) (rows : List (R
     slot_is = found_slot o s vs (length ns) xs limit n k k slot t y h
 
     pub absent : (s' : Store) (ns' : List (Entry (Note K))) (r : Checked (Answer V)) → y.seen ≡ None →
-        Gives (concluding (pick nh ns) n slot t (Some (noted.Range k k)) y.waits answer.Absent (s, ns)) (s, ns) (s', ns') r → AnswersFrom o vh nh before (world s' vs ns' rows (meaning o xs limit)) n (call_of k new) r
+        Gives (concluding (pick nh ns) t.name slot t (Some (noted.Range k k)) y.waits answer.Absent (s, ns)) (s, ns) (s', ns') r → AnswersFrom o vh nh before (world s' vs ns' rows (meaning o xs limit)) n (call_of k new) r
     absent s' ns' r e g =
         answers_by o vh nh before n (call_of k new) _ (goes None e) (world s' vs ns' rows (meaning o xs limit)) r
         (conclude_ends rows s vs ns (meaning o xs limit) (pick nh ns) (pick vh vs) n slot t (Some (noted.Range k k)) y.waits answer.Absent slot_is s' ns' r g)
@@ -103,30 +81,30 @@ module _ {K V : Type 0} (o : K → K → Ordering) (vh nh : ℕ) (rows : List (R
       goes_own : (b : Bool) → made_by n z.1 ≡ b → book_rule o (picked vh nh vs ns) before n (call_of k new) ≡ cond b (own t y.waits z) (cond (not_writable s.slots z.1.end) (conflict before n) (ending t y.waits z))
       goes_own b f = goes (Some z) e ∙ ap (λ (b : Bool). cond b (own t y.waits z) (cond (not_writable s.slots z.1.end) (conflict before n) (ending t y.waits z))) f
 
-      pub own_done : (v : Version K V) (s' : Store) (vs' : List (Entry (Version K V))) → altering.Own ≡ alter_case s.slots n z.1 → v ≡ altered n new z.1 → vs' ≡ set vs z.0 (filled v) → s' ≡ with_slots s (set s.slots slot (Some (answered t.made y.waits t))) →
+      pub own_done : (v : Version K V) (s' : Store) (vs' : List (Entry (Version K V))) → true ≡ made_by n z.1 → v ≡ altered n new z.1 → vs' ≡ set vs z.0 (filled v) → s' ≡ with_slots s (set s.slots slot (Some (answered t.made y.waits t))) →
           AnswersFrom o vh nh before (world s' vs' ns rows (meaning o xs limit)) n (call_of k new) (Ok answer.Done)
       own_done v s' vs' f ev ex es =
-          came o vh nh before n (call_of k new) _ (goes_own true (own_case (made_by n z.1) (not_writable s.slots z.1.end) f)) (world s' vs' ns rows (meaning o xs limit)) (Ok answer.Done)
+          came o vh nh before n (call_of k new) _ (goes_own true (sym f)) (world s' vs' ns rows (meaning o xs limit)) (Ok answer.Done)
           (conclude_done rows s (set vs z.0 (filled (altered n new z.1))) ns (meaning o xs limit) (pick nh ns) (pick vh vs) n slot t y.waits answer.Done slot_is
           ∙ (let p = sym (ex ∙ ap (λ (q : Version K V). set vs z.0 (filled q)) ev) in λ j. Ok (world (sym es j) (p j) ns rows (meaning o xs limit), Ok answer.Done)))
 
       goes_other : (b : Bool) → made_by n z.1 ≡ false → not_writable s.slots z.1.end ≡ b → book_rule o (picked vh nh vs ns) before n (call_of k new) ≡ cond b (conflict before n) (ending t y.waits z)
       goes_other b f g = goes_own false f ∙ ap (λ (b : Bool). cond b (conflict before n) (ending t y.waits z)) g
 
-      pub conflicts : (s' : Store) → altering.Conflict ≡ alter_case s.slots n z.1 → s' ≡ abort_store n s → AnswersFrom o vh nh before (world s' vs ns rows (meaning o xs limit)) n (call_of k new) (Err refusal.Conflict)
-      conflicts s' f a =
-          came o vh nh before n (call_of k new) _ (goes_other true (conflict_case (made_by n z.1) (not_writable s.slots z.1.end) f).0 (conflict_case (made_by n z.1) (not_writable s.slots z.1.end) f).1) (world s' vs ns rows (meaning o xs limit)) (Err refusal.Conflict)
+      pub conflicts : (s' : Store) → false ≡ made_by n z.1 → true ≡ not_writable s.slots z.1.end → s' ≡ abort_store n s → AnswersFrom o vh nh before (world s' vs ns rows (meaning o xs limit)) n (call_of k new) (Err refusal.Conflict)
+      conflicts s' f f' a =
+          came o vh nh before n (call_of k new) _ (goes_other true (sym f) (sym f')) (world s' vs ns rows (meaning o xs limit)) (Err refusal.Conflict)
           (ap {B = Outcome K V} (λ (q : Store). Ok (world q vs ns rows (meaning o xs limit), Err refusal.Conflict)) (sym a))
 
-      pub no_room : (r : Refusal) (vs' : List (Entry (Version K V))) (i' : Index K) → altering.Free ≡ alter_case s.slots n z.1 → adds ≡ Err r → ◌≡◌ {A = List (Entry (Version K V)) × Index K} (vs', i') (vs, meaning o xs limit) →
+      pub no_room : (r : Refusal) (vs' : List (Entry (Version K V))) (i' : Index K) → false ≡ made_by n z.1 → false ≡ not_writable s.slots z.1.end → adds ≡ Err r → ◌≡◌ {A = List (Entry (Version K V)) × Index K} (vs', i') (vs, meaning o xs limit) →
           AnswersFrom o vh nh before (world s vs' ns rows i') n (call_of k new) (Err r)
-      no_room r vs' i' f a same =
-          answers_by o vh nh before n (call_of k new) (Err r) (goes_other false (free_case (made_by n z.1) (not_writable s.slots z.1.end) f).0 (free_case (made_by n z.1) (not_writable s.slots z.1.end) f).1 ∙ give_up _ a) (world s vs' ns rows i') (Err r)
+      no_room r vs' i' f f' a same =
+          answers_by o vh nh before n (call_of k new) (Err r) (goes_other false (sym f) (sym f') ∙ give_up _ a) (world s vs' ns rows i') (Err r)
           (left_as_found before refl ∙ (λ j. (world s (sym same j).0 ns rows (sym same j).1, Err r)))
 
-      pub done : (v : Version K V) (s' : Store) (vs₁ vs' : List (Entry (Version K V))) (i' : Index K) → altering.Free ≡ alter_case s.slots n z.1 → adds ≡ Ok (vs₁, i') →
-          v ≡ with_end (end.Owner n) z.1 → vs' ≡ set vs₁ z.0 (filled v) → s' ≡ with_slots s (set s.slots slot (Some (answered t.made y.waits t))) → AnswersFrom o vh nh before (world s' vs' ns rows i') n (call_of k new) (Ok answer.Done)
-      done v s' vs₁ vs' i' f a ev ex es =
-          came o vh nh before n (call_of k new) _ (goes_other false (free_case (made_by n z.1) (not_writable s.slots z.1.end) f).0 (free_case (made_by n z.1) (not_writable s.slots z.1.end) f).1 ∙ go_on _ a) (world s' vs' ns rows i') (Ok answer.Done)
+      pub done : (s' : Store) (vs₁ vs' : List (Entry (Version K V))) (i' : Index K) → false ≡ made_by n z.1 → false ≡ not_writable s.slots z.1.end → adds ≡ Ok (vs₁, i') →
+          vs' ≡ set vs₁ z.0 (filled (with_end (end.Owner n) z.1)) → s' ≡ with_slots s (set s.slots slot (Some (answered t.made y.waits t))) → AnswersFrom o vh nh before (world s' vs' ns rows i') n (call_of k new) (Ok answer.Done)
+      done s' vs₁ vs' i' f f' a ex es =
+          came o vh nh before n (call_of k new) _ (goes_other false (sym f) (sym f') ∙ go_on _ a) (world s' vs' ns rows i') (Ok answer.Done)
           (conclude_done rows s (set vs₁ z.0 (filled (with_end (end.Owner n) z.1))) ns i' (pick nh ns) (pick vh vs) n slot t y.waits answer.Done slot_is
-          ∙ (let p = sym (ex ∙ ap (λ (q : Version K V). set vs₁ z.0 (filled q)) ev) in λ j. Ok (world (sym es j) (p j) ns rows i', Ok answer.Done)))
+          ∙ (λ j. Ok (world (sym es j) (sym ex j) ns rows i', Ok answer.Done)))

@@ -1,5 +1,5 @@
 -- An insert, exit by exit. Assumes nothing.
-use Rattle.std.proofs.Common.{◌≡◌, ℕ, Bool, true, false, cond, List, length, set, Some, None, Ok, Err, Option, Ordering, sym, refl, ap, ◌∙◌, arith}
+use Rattle.std.proofs.Common.{◌≡◌, ℕ, Bool, true, false, cond, List, length, set, Some, None, Ok, Err, Option, Ordering, sym, refl, ap, ◌∙◌}
 use Rattle.rules.specs.declared.Entry.{Entry}
 use Rattle.rules.specs.declared.Store.{Store}
 use Rattle.seeing.specs.declared.Version.{Version}
@@ -22,29 +22,10 @@ use Rattle.rules.specs.Checks.{Checked, Outcome, or_as_found, ◌>>=◌}
 use Rattle.rules.specs.Reaching.{Met}
 use Rattle.rules.specs.BookRules.{conclude, conflict, note_of, adding, book_rule}
 use Rattle.tables.specs.Places.{pick}
-use Rattle.data_calls.specs.declared.cases.InsertCase.TheVariants as inserting
-use Rattle.data_calls.specs.Cases.{insert_case}
 use Rattle.data_calls.specs.Calling.{world, picked, AnswersFrom, approached, concluding}
 use Rattle.tables.specs.Steps.{Gives}
 use Rattle.tables.proofs.Steps.{go_on, give_up, left_as_found}
 use Rattle.data_calls.proofs.Shapes.{answers_by, came, conclude_ends, conclude_done, unapproached, goes_on, found_slot}
-
--- what the case says of the version seen, and of one too new
-module _ {K V : Type 0} where
-  present_case : (q : Option (Met K V)) (b : Bool) → inserting.Present ≡ insert_case q b → (z : Met K V) × (q ≡ Some z)
-  present_case (Some z) b e = (z, refl)
-  present_case None true e = let z : ◌≡◌ {A = ℕ} 0 1 = cc in absurd (omega arith)
-  present_case None false e = let z : ◌≡◌ {A = ℕ} 0 1 = cc in absurd (omega arith)
-
-  conflict_case : (q : Option (Met K V)) (b : Bool) → inserting.Conflict ≡ insert_case q b → (q ≡ None) × (b ≡ true)
-  conflict_case (Some z) b e = let z : ◌≡◌ {A = ℕ} 0 1 = cc in absurd (omega arith)
-  conflict_case None true e = (refl, refl)
-  conflict_case None false e = let z : ◌≡◌ {A = ℕ} 0 1 = cc in absurd (omega arith)
-
-  free_case : (q : Option (Met K V)) (b : Bool) → inserting.Free ≡ insert_case q b → (q ≡ None) × (b ≡ false)
-  free_case (Some z) b e = let z : ◌≡◌ {A = ℕ} 0 1 = cc in absurd (omega arith)
-  free_case None true e = let z : ◌≡◌ {A = ℕ} 0 1 = cc in absurd (omega arith)
-  free_case None false e = (refl, refl)
 
 module _ {K V : Type 0} (o : K → K → Ordering) (vh nh : ℕ) (rows : List (Row K V)) (s : Store) (vs : List (Entry (Version K V))) (ns : List (Entry (Note K))) (xs : List (K × ℕ)) (limit n : ℕ) (k : K) (x : V) where
   abbrev before : World K V
@@ -69,20 +50,14 @@ module _ {K V : Type 0} (o : K → K → Ordering) (vh nh : ℕ) (rows : List (R
     slot_is : found s.slots n 0 ≡ Some (slot, t)
     slot_is = found_slot o s vs (length ns) xs limit n k k slot t y h
 
-    pub present : (what : Option (Noted K)) (s' : Store) (ns' : List (Entry (Note K))) (r : Checked (Answer V)) → inserting.Present ≡ insert_case y.seen y.newer → what ≡ note_of n k y.seen →
-        Gives (concluding (pick nh ns) n slot t what y.waits answer.Present (s, ns)) (s, ns) (s', ns') r → AnswersFrom o vh nh before (world s' vs ns' rows (meaning o xs limit)) n (book.Insert k x) r
-    present what s' ns' r is ew g =
+    pub present : (z : Met K V) (e : y.seen ≡ Some z) (what : Option (Noted K)) (s' : Store) (ns' : List (Entry (Note K))) (r : Checked (Answer V)) → what ≡ note_of n k y.seen →
+        Gives (concluding (pick nh ns) t.name slot t what y.waits answer.Present (s, ns)) (s, ns) (s', ns') r → AnswersFrom o vh nh before (world s' vs ns' rows (meaning o xs limit)) n (book.Insert k x) r
+    present z e what s' ns' r ew g =
         answers_by o vh nh before n (book.Insert k x) (conclude (picked vh nh vs ns) before n t what y.waits answer.Present)
         (goes _ (seen y.seen e ∙ ap (λ (w : Option (Noted K)). conclude (picked vh nh vs ns) before n t w y.waits answer.Present) (sym (ew ∙ ap (note_of n k) e))))
         (world s' vs ns' rows (meaning o xs limit)) r
         (conclude_ends rows s vs ns (meaning o xs limit) (pick nh ns) (pick vh vs) n slot t what y.waits answer.Present slot_is s' ns' r g)
       where
-        z : Met K V
-        z = (present_case y.seen y.newer is).0
-
-        e : y.seen ≡ Some z
-        e = (present_case y.seen y.newer is).1
-
         seen : (q : Option (Met K V)) → q ≡ Some z → steps t (record { seen = q; waits = y.waits; newer = y.newer }) ≡ conclude (picked vh nh vs ns) before n t (note_of n k (Some z)) y.waits answer.Present
         seen q e = rw e
 
@@ -93,36 +68,24 @@ module _ {K V : Type 0} (o : K → K → Ordering) (vh nh : ℕ) (rows : List (R
           go : (q : Option (Met K V)) (b' : Bool) → q ≡ None → b' ≡ b → steps t (record { seen = q; waits = y.waits; newer = b' }) ≡ cond b (conflict before n) (adding o (pick vh vs) n k x (vs, meaning o xs limit) >>= (λ z. conclude (picked vh nh vs ns) (world s z.0 ns rows z.1) n t None y.waits answer.Done))
           go q b' a e = rw (a, e)
 
-      conflicts' : (s' : Store) → y.newer ≡ true → s' ≡ abort_store n s → AnswersFrom o vh nh before (world s' vs ns rows (meaning o xs limit)) n (book.Insert k x) (Err refusal.Conflict)
-      conflicts' s' e a =
+      pub conflicts : (s' : Store) → y.newer ≡ true → s' ≡ abort_store n s → AnswersFrom o vh nh before (world s' vs ns rows (meaning o xs limit)) n (book.Insert k x) (Err refusal.Conflict)
+      conflicts s' e a =
           came o vh nh before n (book.Insert k x) (conflict before n) (goes _ (unseen true e)) (world s' vs ns rows (meaning o xs limit)) (Err refusal.Conflict)
           (ap {B = Outcome K V} (λ (q : Store). Ok (world q vs ns rows (meaning o xs limit), Err refusal.Conflict)) (sym a))
 
       module _ (old : y.newer ≡ false) where
-        no_room' : (e : Refusal) (vs' : List (Entry (Version K V))) (i' : Index K) → adding o (pick vh vs) n k x (vs, meaning o xs limit) ≡ Err e → ◌≡◌ {A = List (Entry (Version K V)) × Index K} (vs', i') (vs, meaning o xs limit) →
+        pub no_room : (e : Refusal) (vs' : List (Entry (Version K V))) (i' : Index K) → adding o (pick vh vs) n k x (vs, meaning o xs limit) ≡ Err e → ◌≡◌ {A = List (Entry (Version K V)) × Index K} (vs', i') (vs, meaning o xs limit) →
             AnswersFrom o vh nh before (world s vs' ns rows i') n (book.Insert k x) (Err e)
-        no_room' e vs' i' f same =
+        no_room e vs' i' f same =
             answers_by o vh nh before n (book.Insert k x) (Err e) (goes _ (unseen false old ∙ give_up _ f)) (world s vs' ns rows i') (Err e)
             (left e ∙ (λ j. (world s (sym same j).0 ns rows (sym same j).1, Err e)))
           where
             left : (e : Refusal) → or_as_found before (Err e) ≡ (before, Err e)
             left e = left_as_found before refl
 
-        done' : (s' : Store) (vs' : List (Entry (Version K V))) (i' : Index K) → adding o (pick vh vs) n k x (vs, meaning o xs limit) ≡ Ok (vs', i') → s' ≡ with_slots s (set s.slots slot (Some (answered t.made y.waits t))) →
+        pub done : (s' : Store) (vs' : List (Entry (Version K V))) (i' : Index K) → adding o (pick vh vs) n k x (vs, meaning o xs limit) ≡ Ok (vs', i') → s' ≡ with_slots s (set s.slots slot (Some (answered t.made y.waits t))) →
             AnswersFrom o vh nh before (world s' vs' ns rows i') n (book.Insert k x) (Ok answer.Done)
-        done' s' vs' i' f e =
+        done s' vs' i' f e =
             came o vh nh before n (book.Insert k x) _ (goes _ (unseen false old ∙ go_on _ f)) (world s' vs' ns rows i') (Ok answer.Done)
             (conclude_done rows s vs' ns i' (pick nh ns) (pick vh vs) n slot t y.waits answer.Done slot_is
             ∙ ap {B = Outcome K V} (λ (q : Store). Ok (world q vs' ns rows i', Ok answer.Done)) (sym e))
-
-    pub conflicts : (s' : Store) → inserting.Conflict ≡ insert_case y.seen y.newer → s' ≡ abort_store n s → AnswersFrom o vh nh before (world s' vs ns rows (meaning o xs limit)) n (book.Insert k x) (Err refusal.Conflict)
-    conflicts s' is a = conflicts' (conflict_case y.seen y.newer is).0 s' (conflict_case y.seen y.newer is).1 a
-
-    module _ (is : inserting.Free ≡ insert_case y.seen y.newer) where
-      pub no_room : (e : Refusal) (vs' : List (Entry (Version K V))) (i' : Index K) → adding o (pick vh vs) n k x (vs, meaning o xs limit) ≡ Err e → ◌≡◌ {A = List (Entry (Version K V)) × Index K} (vs', i') (vs, meaning o xs limit) →
-          AnswersFrom o vh nh before (world s vs' ns rows i') n (book.Insert k x) (Err e)
-      no_room = no_room' (free_case y.seen y.newer is).0 (free_case y.seen y.newer is).1
-
-      pub done : (s' : Store) (vs' : List (Entry (Version K V))) (i' : Index K) → adding o (pick vh vs) n k x (vs, meaning o xs limit) ≡ Ok (vs', i') → s' ≡ with_slots s (set s.slots slot (Some (answered t.made y.waits t))) →
-          AnswersFrom o vh nh before (world s' vs' ns rows i') n (book.Insert k x) (Ok answer.Done)
-      done = done' (free_case y.seen y.newer is).0 (free_case y.seen y.newer is).1

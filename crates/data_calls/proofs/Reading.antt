@@ -33,7 +33,7 @@ module _ {K V : Type 0} (o : K → K → Ordering) (vh nh : ℕ) (rows : List (R
 
   pub reads : (slot : ℕ) (t : Transaction) (y : Survey K V) (what : Option (Noted K)) (a : Answer V) (s' : Store) (ns' : List (Entry (Note K))) (r : Checked (Answer V)) →
       Ok (slot, t, y) ≡ approached o s vs (length ns) xs limit n k k → what ≡ note_of n k y.seen → a ≡ value_of y.seen →
-      Gives (concluding (pick nh ns) n slot t what y.waits a (s, ns)) (s, ns) (s', ns') r → AnswersFrom o vh nh before (world s' vs ns' rows (meaning o xs limit)) n (book.Read k) r
+      Gives (concluding (pick nh ns) t.name slot t what y.waits a (s, ns)) (s, ns) (s', ns') r → AnswersFrom o vh nh before (world s' vs ns' rows (meaning o xs limit)) n (book.Read k) r
   reads slot t y what a s' ns' r h ew ea g =
       answers_by o vh nh before n (book.Read k) (steps t y) (goes_on o vh nh rows s vs ns xs limit n k k (book.Read k) steps refl slot t y h) (world s' vs ns' rows (meaning o xs limit)) r
       ((λ j. or_as_found' (sym ew j) (sym ea j))

@@ -1,5 +1,5 @@
 -- The rules of the book calls, in the shape of the code. Assumes nothing.
-use Rattle.std.proofs.Common.{◌≡◌, ℕ, Bool, true, false, cond, not, List, length, set, Some, None, Ok, Err, Option, Ordering, sym, refl, ap, ◌∙◌, arith}
+use Rattle.std.proofs.Common.{◌≡◌, ℕ, Bool, List, length, set, Some, None, Ok, Err, Option, Ordering, sym, refl, ap, ◌∙◌, subst, arith}
 use Rattle.rules.specs.declared.Entry.{Entry}
 use Rattle.rules.specs.declared.Store.{Store}
 use Rattle.seeing.specs.declared.Version.{Version}
@@ -11,85 +11,25 @@ use Rattle.seeing.specs.declared.Transaction.{Transaction}
 use Rattle.rules.specs.declared.BookCall.{BookCall}
 use Rattle.rules.specs.declared.Answer.{Answer}
 use Rattle.rules.specs.declared.Refusal.{Refusal}
-use Rattle.rules.specs.declared.Refusal.TheVariants as refusal
-use Rattle.std.specs.Option.{option_map}
 use Rattle.seeing.specs.Slots.{Slots, found}
 use Rattle.rules.specs.Index.{Index, meaning, covering}
 use Rattle.rules.specs.Worlds.{World, with_slots}
 use Rattle.rules.specs.Slots.{change, answered}
-use Rattle.rules.specs.Checks.{Checked, Outcome, ◌>>=◌, ◌>>◌, some_or, refuse_if, or_as_found, still_allowed, sound}
+use Rattle.rules.specs.Checks.{Checked, Outcome, ◌>>=◌, or_as_found, sound}
 use Rattle.rules.specs.Reaching.{reach_all}
 use Rattle.seeing.specs.Phases.{is_active}
 use Rattle.rules.specs.BookRules.{noting, conclude, book_rule}
 use Rattle.index.specs.Listed.{rest}
-use Rattle.data_calls.specs.Cases.{refusal_for}
-use Rattle.data_calls.specs.Calling.{located, world, picked, Answers, AnswersAround, AnswersFrom, AnswersFromAround, approached, concluding}
+use Rattle.data_calls.specs.Calling.{world, picked, Answers, AnswersAround, AnswersFrom, AnswersFromAround, approached, concluding}
+use Rattle.tables.specs.Naming.{located}
+use Rattle.tables.proofs.Lookups.{found_name, sound_located, located_found}
 use Rattle.tables.proofs.Picking.{picks_allowed}
 use Rattle.walks.specs.Walk.{start, walk}
 use Rattle.tables.specs.Steps.{Gives}
-use Rattle.seeing.proofs.Finding.{find_found}
 use Rattle.slots.proofs.Found.{change_found}
 use Rattle.walks.proofs.Covering.{covering_rest}
 use Rattle.tables.proofs.Steps.{go_on, give_up, left_as_found, came_to}
 use Rattle.walks.proofs.Walking.{bind_bind, bind_same, surveyed, reach_walk}
-
-pub sound_located : (s : Store) (a b c n : ℕ) → sound s a b c n is_active ≡ (located s a b c n >>= (λ x. Ok x.1))
-unfolding ◌>>=◌ ◌>>◌ some_or refuse_if
-sound_located s a b c n = ap with_one (find_found s.slots n 0) ∙ go (still_allowed s.opened a b c) (found s.slots n 0)
-  where
-    with_one : Option Transaction → Checked Transaction
-    with_one f = (refuse_if (not (still_allowed s.opened a b c)) refusal.Lengths >> (some_or refusal.Unknown f >>= (λ t. refuse_if (not (is_active t.phase)) refusal.Phase >> Ok t))) >>= (λ t. refuse_if t.doomed refusal.Doomed >> Ok t)
-
-    last : (active doomed : Bool) (x : ℕ × Transaction) →
-        ((refuse_if (not active) refusal.Phase >> Ok x.1) >>= (λ t. refuse_if doomed refusal.Doomed >> Ok x.1)) ≡ ((refuse_if (not active) refusal.Phase >> (refuse_if doomed refusal.Doomed >> Ok x)) >>= (λ y. Ok y.1))
-    last true true x = refl
-    last true false x = refl
-    last false d x = refl
-
-    go : (b : Bool) (o : Option (ℕ × Transaction)) →
-        ((refuse_if (not b) refusal.Lengths >> (some_or refusal.Unknown (option_map (λ x. x.1) o) >>= (λ t. refuse_if (not (is_active t.phase)) refusal.Phase >> Ok t))) >>= (λ t. refuse_if t.doomed refusal.Doomed >> Ok t))
-        ≡ ((refuse_if (not b) refusal.Lengths >> (some_or refusal.Unknown o >>= (λ x. refuse_if (not (is_active x.1.phase)) refusal.Phase >> (refuse_if x.1.doomed refusal.Doomed >> Ok x)))) >>= (λ x. Ok x.1))
-    go false o = refl
-    go true None = refl
-    go true (Some x) = end (is_active x.1.phase) x.1.doomed refl
-      where
-        end : (active doomed : Bool) → x.1.doomed ≡ doomed →
-            ((refuse_if (not active) refusal.Phase >> Ok x.1) >>= (λ t. refuse_if t.doomed refusal.Doomed >> Ok t)) ≡ ((refuse_if (not active) refusal.Phase >> (refuse_if x.1.doomed refusal.Doomed >> Ok x)) >>= (λ y. Ok y.1))
-        end true d e = last true x.1.doomed x
-        end false d e = refl
-
--- the checks of the phase and of the doom, by the refusal that they come to
-pub barred : (t : Transaction) (x : ℕ × Transaction) (r : Refusal) → Some r ≡ refusal_for t → (refuse_if (not (is_active t.phase)) refusal.Phase >> (refuse_if t.doomed refusal.Doomed >> Ok x)) ≡ Err r
-unfolding ◌>>◌ refuse_if
-barred t x r e = go (is_active t.phase) t.doomed e
-  where
-    go : (a d : Bool) → Some r ≡ cond a (cond d (Some refusal.Doomed) None) (Some refusal.Phase) → (refuse_if (not a) refusal.Phase >> (refuse_if d refusal.Doomed >> Ok x)) ≡ Err r
-    go true true k = let q : refusal.Doomed ≡ r = cc in ap Err q
-    go true false k = let z : ◌≡◌ {A = ℕ} 0 1 = cc in absurd (omega arith)
-    go false d k = let q : refusal.Phase ≡ r = cc in ap Err q
-
-pub unbarred : (t : Transaction) (x : ℕ × Transaction) → None ≡ refusal_for t → (refuse_if (not (is_active t.phase)) refusal.Phase >> (refuse_if t.doomed refusal.Doomed >> Ok x)) ≡ Ok x
-unfolding ◌>>◌ refuse_if
-unbarred t x e = go (is_active t.phase) t.doomed e
-  where
-    go : (a d : Bool) → None ≡ cond a (cond d (Some refusal.Doomed) None) (Some refusal.Phase) → (refuse_if (not a) refusal.Phase >> (refuse_if d refusal.Doomed >> Ok x)) ≡ Ok x
-    go true true k = let z : ◌≡◌ {A = ℕ} 0 1 = cc in absurd (omega arith)
-    go true false k = refl
-    go false d k = let z : ◌≡◌ {A = ℕ} 0 1 = cc in absurd (omega arith)
-
-pub located_found : (s : Store) (a b c n : ℕ) (x : ℕ × Transaction) → Ok x ≡ located s a b c n → found s.slots n 0 ≡ Some x
-unfolding ◌>>=◌ ◌>>◌ some_or refuse_if
-located_found s a b c n x e = go (still_allowed s.opened a b c) (found s.slots n 0) e
-  where
-    end : (active doomed : Bool) (y : ℕ × Transaction) → Ok x ≡ (refuse_if (not active) refusal.Phase >> (refuse_if doomed refusal.Doomed >> Ok y)) → Some y ≡ Some x
-    end true true y k = let z : ◌≡◌ {A = ℕ} 0 1 = cc in absurd (omega arith)
-    end true false y k = cc
-    end false d y k = let z : ◌≡◌ {A = ℕ} 0 1 = cc in absurd (omega arith)
-
-    go : (b : Bool) (o : Option (ℕ × Transaction)) → Ok x ≡ (refuse_if (not b) refusal.Lengths >> (some_or refusal.Unknown o >>= (λ x. refuse_if (not (is_active x.1.phase)) refusal.Phase >> (refuse_if x.1.doomed refusal.Doomed >> Ok x)))) → o ≡ Some x
-    go false o k = let z : ◌≡◌ {A = ℕ} 0 1 = cc in absurd (omega arith)
-    go true None k = let z : ◌≡◌ {A = ℕ} 0 1 = cc in absurd (omega arith)
-    go true (Some y) k = end (is_active y.1.phase) y.1.doomed y k
 
 module _ {K V : Type 0} (o : K → K → Ordering) (s : Store) (a b c n : ℕ) (vs : List (Entry (Version K V))) (ps : List (K × ℕ)) (k : Transaction → Survey K V → Outcome K V) where
   abbrev pub ruled : Outcome K V
@@ -106,11 +46,16 @@ module _ {K V : Type 0} (o : K → K → Ordering) (s : Store) (a b c n : ℕ) (
 
 -- the free entries picked are allowed
 module _ {K V : Type 0} (o : K → K → Ordering) (vh nh : ℕ) where
-  pub chosen : (w w' : World K V) (n : ℕ) (a : BookCall K V) (r : Checked (Answer V)) → AnswersFrom o vh nh w w' n a r → Answers o w w' n a r
+  chosen : (w w' : World K V) (n : ℕ) (a : BookCall K V) (r : Checked (Answer V)) → AnswersFrom o vh nh w w' n a r → Answers o w w' n a r
   chosen w w' n a r h = (picked vh nh w.versions w.notes, picks_allowed vh nh w, h)
 
-  pub chosen_around : (w w' : List (Row K V) → World K V) (n : ℕ) (a : BookCall K V) (r : Checked (Answer V)) → AnswersFromAround o vh nh w w' n a r → AnswersAround o w w' n a r
-  chosen_around w w' n a r h rows = chosen (w rows) (w' rows) n a r (h rows)
+  -- both clauses of a call, by the second; q is the answer, as r says it
+  pub told : (w w' : World K V) (n : ℕ) (a : BookCall K V) (r q : Checked (Answer V)) → q ≡ r → AnswersFrom o vh nh w w' n a r → record { answers : Answers o w w' n a q; picks : AnswersFrom o vh nh w w' n a q }
+  told w w' n a r q e h = let k : AnswersFrom o vh nh w w' n a q = h ∙ ap (λ z. (w', z)) (sym e) in record { answers = chosen w w' n a q k; picks = k }
+
+  -- the same around a row table
+  pub told_around : (w w' : List (Row K V) → World K V) (n : ℕ) (a : BookCall K V) (r q : Checked (Answer V)) → q ≡ r → AnswersFromAround o vh nh w w' n a r → record { answers : AnswersAround o w w' n a q; picks : AnswersFromAround o vh nh w w' n a q }
+  told_around w w' n a r q e h = record { answers = λ rows. (told (w rows) (w' rows) n a r q e (h rows)).answers; picks = λ rows. (told (w rows) (w' rows) n a r q e (h rows)).picks }
 
 module _ {K V : Type 0} (o : K → K → Ordering) (vh nh : ℕ) (w : World K V) (n : ℕ) (call : BookCall K V) (m : Outcome K V) (is : book_rule o (picked vh nh w.versions w.notes) w n call ≡ m) where
   pub answers_by : (w' : World K V) (r : Checked (Answer V)) → or_as_found w m ≡ (w', r) → AnswersFrom o vh nh w w' n call r
@@ -134,11 +79,14 @@ module _ {K V : Type 0} (rows : List (Row K V)) (s : Store) (vs : List (Entry (V
       ∙ sym (bind_bind (noting p n t what ns) (λ x. Ok (a, (with_slots s (set s.slots slot (Some (answered x.0 ws t))), x.1))) (λ z. Ok (world z.1.0 vs z.1.1 rows i, Ok z.0)))
 
   -- what the code's conclusion leaves is what the rule's does
-  pub conclude_ends : (s' : Store) (ns' : List (Entry (Note K))) (r : Checked (Answer V)) → Gives (concluding p n slot t what ws a (s, ns)) (s, ns) (s', ns') r → or_as_found (world s vs ns rows i) concludes ≡ (world s' vs ns' rows i, r)
-  conclude_ends s' ns' (Ok b) g = came_to (world s vs ns rows i) (world s' vs ns' rows i, Ok b) (concluded ∙ go_on (λ z. Ok (world z.1.0 vs z.1.1 rows i, Ok z.0)) g)
-  conclude_ends s' ns' (Err e) g =
-      left_as_found (world s vs ns rows i) (concluded ∙ give_up (λ z. Ok (world z.1.0 vs z.1.1 rows i, Ok z.0)) g.0)
-      ∙ (let q = g.1 in λ j. (world (sym q j).0 vs (sym q j).1 rows i, Err e))
+  pub conclude_ends : (s' : Store) (ns' : List (Entry (Note K))) (r : Checked (Answer V)) → Gives (concluding p t.name slot t what ws a (s, ns)) (s, ns) (s', ns') r → or_as_found (world s vs ns rows i) concludes ≡ (world s' vs ns' rows i, r)
+  conclude_ends s' ns' r g = go r (subst (λ (m : ℕ). Gives (concluding p m slot t what ws a (s, ns)) (s, ns) (s', ns') r) (found_name s.slots n 0 (slot, t) f) g)
+    where
+      go : (r : Checked (Answer V)) → Gives (concluding p n slot t what ws a (s, ns)) (s, ns) (s', ns') r → or_as_found (world s vs ns rows i) concludes ≡ (world s' vs ns' rows i, r)
+      go (Ok b) g = came_to (world s vs ns rows i) (world s' vs ns' rows i, Ok b) (concluded ∙ go_on (λ z. Ok (world z.1.0 vs z.1.1 rows i, Ok z.0)) g)
+      go (Err e) g =
+          left_as_found (world s vs ns rows i) (concluded ∙ give_up (λ z. Ok (world z.1.0 vs z.1.1 rows i, Ok z.0)) g.0)
+          ∙ (let q = g.1 in λ j. (world (sym q j).0 vs (sym q j).1 rows i, Err e))
 
 module _ {K V : Type 0} where
   pub entered : (a : Answer V) (s s' : Store) (ns : List (Entry (Note K))) → s' ≡ s → ◌≡◌ {A = Checked (Answer V × (Store × List (Entry (Note K))))} (Ok (a, (s, ns))) (Ok (a, (s', ns)))

@@ -1,11 +1,9 @@
 -- What the calls on rows and their helpers come to. Assumes nothing.
-use Rattle.std.specs.Prelude.{◌≡◌, ℕ, Bool, not, List, length, Some, None, Ok, Option, Result, slice_set}
+use Rattle.std.specs.Prelude.{◌≡◌, ℕ, Bool, List, length, Some, None, Ok, Option, Result, slice_set}
 use Rattle.std.specs.declared.cmp.Ordering.{Ordering}
 use Rattle.index.specs.Listed.{rest}
 use Rattle.seeing.specs.declared.Transaction.{Transaction}
 use Rattle.seeing.specs.declared.Version.{Version}
-use Rattle.seeing.specs.Phases.{is_active}
-use Rattle.seeing.specs.Slots.{found}
 use Rattle.rules.specs.declared.Entry.{Entry}
 use Rattle.rules.specs.declared.Store.{Store}
 use Rattle.rules.specs.declared.Note.{Note}
@@ -16,14 +14,14 @@ use Rattle.rules.specs.declared.BookCall.TheVariants as book
 use Rattle.rules.specs.declared.Call.TheVariants as call
 use Rattle.rules.specs.declared.Answer.{Answer}
 use Rattle.rules.specs.declared.Refusal.{Refusal}
-use Rattle.rules.specs.declared.Refusal.TheVariants as refusal
 use Rattle.rules.specs.Index.{Index}
 use Rattle.rules.specs.Worlds.{World, Choice, Allowed, with_slots}
-use Rattle.rules.specs.Checks.{Checked, ◌>>=◌, ◌>>◌, some_or, refuse_if, still_allowed}
+use Rattle.rules.specs.Checks.{Checked, ◌>>=◌}
 use Rattle.rules.specs.Slots.{answered}
 use Rattle.rules.specs.BookRules.{noting}
 use Rattle.rules.specs.Rules.{rule}
 use Rattle.tables.specs.Places.{pick}
+use Rattle.tables.specs.Naming.{located}
 use Rattle.walks.specs.declared.Survey.{Survey}
 use Rattle.walks.specs.Walk.{start, walk}
 
@@ -52,15 +50,6 @@ module _ {K V : Type 0} (order : K → K → Ordering) where
   -- the same whatever the row table, which stays as it is
   abbrev pub AnswersFromAround : ℕ → ℕ → (List (Row K V) → World K V) → (List (Row K V) → World K V) → ℕ → BookCall K V → Result (Answer V) Refusal → Type 0
   AnswersFromAround version_hint note_hint w w' n a r = (rows : List (Row K V)) → AnswersFrom version_hint note_hint (w rows) (w' rows) n a r
-
--- the slot and the transaction that a call names
-abbrev pub located : Store → ℕ → ℕ → ℕ → ℕ → Checked (ℕ × Transaction)
-located s versions notes capacity n = do
-  refuse_if (not (still_allowed s.opened versions notes capacity)) refusal.Lengths
-  x ← some_or refusal.Unknown (found s.slots n 0)
-  refuse_if (not (is_active x.1.phase)) refusal.Phase
-  refuse_if x.1.doomed refusal.Doomed
-  Ok x
 
 module _ {K V : Type 0} (order : K → K → Ordering) where
   -- the slot and the transaction that a call names, and what a walk over the versions from lower to upper finds for it

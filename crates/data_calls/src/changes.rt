@@ -1,18 +1,14 @@
 // Inserting, updating and deleting.
 ghost use Rattle.rules.specs.Worlds.{around};
-ghost use Rattle.std.specs.Prelude.{◌≡◌};
-ghost use Rattle.seeing.specs.declared.End.TheVariants as end;
-ghost use Rattle.seeing.specs.Changing.{with_end};
 ghost use Rattle.rules.specs.declared.BookCall.TheVariants as book;
 ghost use Rattle.rules.specs.Index.{meaning};
 ghost use Rattle.data_calls.specs.Calling.{AnswersAround, AnswersFromAround, call_of};
 
 use crate::answers::{conclude, enter, note_for};
-use crate::cases::{AlterCase, InsertCase, alter_case, insert_case};
 use crate::checks::approach;
 use index::Index;
 use rules::{Answer, Entry, Note, Noted, Refusal, Store};
-use seeing::{End, Version, altered};
+use seeing::{End, Version};
 use slots::abort_one;
 use tables::replace;
 use walks::{add, add_if};
@@ -32,42 +28,22 @@ pub fn insert<I: Index, V: Copy>(
     ensures answers { AnswersAround I.Key.Key.order (around store.old versions.old notes.old (meaning I.Key.Key.order (I.pairs index.old) (I.limit index.old))) (around store.new versions.new notes.new (meaning I.Key.Key.order (I.pairs index.new) (I.limit index.new))) transaction (book.Insert key value) result }
     ensures picks { AnswersFromAround I.Key.Key.order version_hint note_hint (around store.old versions.old notes.old (meaning I.Key.Key.order (I.pairs index.old) (I.limit index.old))) (around store.new versions.new notes.new (meaning I.Key.Key.order (I.pairs index.new) (I.limit index.new))) transaction (book.Insert key value) result }
 {
-    let (slot, t, found) = approach(store, versions, notes.len(), index, transaction, key, key)?;
-    match insert_case(found) {
-        InsertCase::Present => {
+    let (one, found) = approach(store, versions, notes, index, transaction, key, key)?;
+    let waits = found.waits;
+    match found.seen {
+        Some(_) => {
             let note = note_for(transaction, key, found.seen);
-            let answer = Answer::Present;
-            conclude(
-                store,
-                notes,
-                note_hint,
-                transaction,
-                slot,
-                t,
-                note,
-                found.waits,
-                answer,
-            )
+            conclude(store, notes, note_hint, one, note, waits, Answer::Present)
         }
-        InsertCase::Conflict => {
+        None if found.newer => {
             abort_one(store, transaction);
             Err(Refusal::Conflict)
         }
-        InsertCase::Free => {
+        None => {
             let _place = add(versions, index, version_hint, transaction, key, value)?;
-            enter(store, slot, t, t.made, found.waits);
+            enter(store, one, one.transaction.made, waits);
             Ok(Answer::Done)
         }
-    }
-}
-
-// The version ended by the transaction.
-fn ended_by<K: Copy, V: Copy>(name: u64, version: Version<K, V>) -> Version<K, V>
-    ensures { result ≡ with_end (end.Owner name) version }
-{
-    Version {
-        end: End::Owner(name),
-        ..version
     }
 }
 
@@ -86,41 +62,27 @@ fn alter<I: Index, V: Copy>(
     ensures answers { AnswersAround I.Key.Key.order (around store.old versions.old notes.old (meaning I.Key.Key.order (I.pairs index.old) (I.limit index.old))) (around store.new versions.new notes.new (meaning I.Key.Key.order (I.pairs index.new) (I.limit index.new))) transaction (call_of key new) result }
     ensures picks { AnswersFromAround I.Key.Key.order version_hint note_hint (around store.old versions.old notes.old (meaning I.Key.Key.order (I.pairs index.old) (I.limit index.old))) (around store.new versions.new notes.new (meaning I.Key.Key.order (I.pairs index.new) (I.limit index.new))) transaction (call_of key new) result }
 {
-    let (slot, t, found) = approach(store, versions, notes.len(), index, transaction, key, key)?;
+    let (one, found) = approach(store, versions, notes, index, transaction, key, key)?;
     let waits = found.waits;
     let Some(met) = found.seen else {
         let note = Some(Noted::Range(key, key));
-        let answer = Answer::Absent;
-        return conclude(
-            store,
-            notes,
-            note_hint,
-            transaction,
-            slot,
-            t,
-            note,
-            waits,
-            answer,
-        );
+        return conclude(store, notes, note_hint, one, note, waits, Answer::Absent);
     };
     let (place, version) = met;
-    match alter_case(&store.slots, transaction, &version) {
-        AlterCase::Own => {
-            replace(versions, place, altered(transaction, new, version));
-            enter(store, slot, t, t.made, waits);
-            Ok(Answer::Done)
-        }
-        AlterCase::Conflict => {
-            abort_one(store, transaction);
-            Err(Refusal::Conflict)
-        }
-        AlterCase::Free => {
-            let _place = add_if(versions, index, version_hint, transaction, key, new)?;
-            replace(versions, place, ended_by(transaction, version));
-            enter(store, slot, t, t.made, waits);
-            Ok(Answer::Done)
-        }
+    if version.is_made_by(transaction) {
+        replace(versions, place, version.altered(transaction, new));
+        enter(store, one, one.transaction.made, waits);
+        return Ok(Answer::Done);
     }
+    if version.end.is_locked(&store.slots) {
+        abort_one(store, transaction);
+        return Err(Refusal::Conflict);
+    }
+    let _place = add_if(versions, index, version_hint, transaction, key, new)?;
+    let end = End::Owner(transaction);
+    replace(versions, place, Version { end, ..version });
+    enter(store, one, one.transaction.made, waits);
+    Ok(Answer::Done)
 }
 
 /// "absent", or "done" with the value in place of the old one.

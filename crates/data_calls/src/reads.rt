@@ -23,18 +23,8 @@ pub fn read<I: Index, V: Copy>(
     ensures answers { AnswersAround I.Key.Key.order (around store.old versions.now notes.old (meaning I.Key.Key.order (I.pairs index.now) (I.limit index.now))) (around store.new versions.now notes.new (meaning I.Key.Key.order (I.pairs index.now) (I.limit index.now))) transaction (book.Read key) result }
     ensures picks { AnswersFromAround I.Key.Key.order 0 note_hint (around store.old versions.now notes.old (meaning I.Key.Key.order (I.pairs index.now) (I.limit index.now))) (around store.new versions.now notes.new (meaning I.Key.Key.order (I.pairs index.now) (I.limit index.now))) transaction (book.Read key) result }
 {
-    let (slot, t, found) = approach(store, versions, notes.len(), index, transaction, key, key)?;
+    let (one, found) = approach(store, versions, notes, index, transaction, key, key)?;
     let note = note_for(transaction, key, found.seen);
     let value = value_for(found.seen);
-    conclude(
-        store,
-        notes,
-        note_hint,
-        transaction,
-        slot,
-        t,
-        note,
-        found.waits,
-        value,
-    )
+    conclude(store, notes, note_hint, one, note, found.waits, value)
 }

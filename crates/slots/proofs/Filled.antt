@@ -1,34 +1,60 @@
--- Loops over the 64 slots. Assumes nothing.
-use Rattle.std.proofs.Common.{◌≡◌, ℕ, zero, suc, ◌+◌, ◌<◌, ◌≤◌, Bool, true, false, List, map, length, get_or, set, sym, ap, ◌∙◌, ⊎_elim, not-suc-le-zero, add-one, arith}
-use Rattle.std.specs.List.{range_with_len}
-use Rattle.std.proofs.lemmas.List.{length-set}
-use Rattle.std.proofs.lemmas.List.Edits.{fill_by_more}
-use Rattle.std.proofs.lemmas.List.FromFn.{fill_by_all}
-use Rattle.std.proofs.lemmas.Bool.{or_from, or_left, or_right, cases_eq}
+-- Arrays of 64 made by `from_fn`. Assumes nothing.
+use Rattle.std.proofs.Common.{◌≡◌, ℕ, zero, suc, ◌+◌, ◌<◌, ◌≤◌, Bool, false, ◌&&◌, ◌||◌, List, [], ◌∷◌, map, length, get_or, sym, subst, refl, ap, ◌∙◌, ⊎_elim, add-one, arith}
+use Rattle.std.specs.List.{range_with_len, list_any, zip}
 use Rattle.rules.specs.Lists.{some_below}
 use Rattle.seeing.specs.Slots.{Slots}
 use Rattle.rules.specs.Aborting.{spread, spread_for}
+use Rattle.std.specs.Fn.{Mut, Called}
+use Rattle.std.specs.Array.{IsFromFnResult, IsFromFnResultFrom, IsMapOf, MapsFrom}
+use Rattle.std.proofs.lemmas.List.{ext_get_or, length-map, get_or-map}
+use Rattle.std.proofs.lemmas.List.FromFn.{fill_by_all}
+use Rattle.std.proofs.lemmas.Bool.{cases_eq}
+use Rattle.std.proofs.Math.Bool.{or_assoc, or_comm}
 
-module _ {X : Type 0} (f : ℕ → X) (xs : List X) (i : ℕ) (d : X) where
-  pub fill_step : (y : X) → i < 64 → ((k : ℕ) → k < i → get_or xs k d ≡ f k) × (length xs ≡ 64) → y ≡ f i → ((k : ℕ) → k < i + 1 → get_or (set xs i y) k d ≡ f k) × (length (set xs i y) ≡ 64)
-  fill_step y h inv e = (
-    λ k l. ap (λ (z : X). get_or (set xs i z) k d) e ∙ fill_by_more f xs i d (omega (arith, inv.1)) inv.0 k l,
-    length-set xs i y ∙ inv.1,
-  )
+-- each call of the closure gives h of the index, and changes no capture
+module _ {F X : Type 0} (g : Mut F (ℕ × Unit {0}) X) (h : ℕ → X) (f : F) (gives : (i : ℕ) (y : X) (q : F) → Called g f (i, tt) y q → (q ≡ f) × (y ≡ h i)) where
+  from_there : (ys : List X) (i n : ℕ) (p : F) → p ≡ f → IsFromFnResultFrom g p ys i n → (k : ℕ) (d : X) → i ≤ k → k < i + n → get_or ys k d ≡ h k
+  from_there ys i zero p e made k d a b = absurd (omega arith)
+  from_there ys i (suc n) p e made k d a b =
+      let one = gives i made.1 made.0 (subst (λ (q : F). Called g q (i, tt) made.1 made.0) e made.3) in
+      ⊎_elim
+      (λ (z : k ≡ i). ap (λ (j : ℕ). get_or ys j d) z ∙ made.2.1 d ∙ one.1 ∙ ap h (sym z))
+      (λ (z : k ≡ i → ⊥). from_there ys (i + 1) n made.0 one.0 made.4 k d (omega arith) (omega arith))
+      (cases_eq k i)
 
-  pub fill_end : 64 ≤ i → ((k : ℕ) → k < i → get_or xs k d ≡ f k) × (length xs ≡ 64) → xs ≡ map f (range_with_len 0 64)
-  fill_end h inv = fill_by_all f xs 64 d inv.1 (λ k l. inv.0 k (omega arith))
+  pub from_fn_all : (ys : List X) (n : ℕ) (d : X) → IsFromFnResult g f ys n → ys ≡ map h (range_with_len 0 n)
+  from_fn_all ys n d made = fill_by_all h ys n d made.long (λ k l. from_there ys 0 n f refl made.each k d (omega arith) (omega arith))
 
-pub none_yet : (f : ℕ → Bool) (i : ℕ) → some_below f i ≡ false → f i ≡ false → some_below f (i + 1) ≡ false
-none_yet f i a b = rw add-one (or_from (some_below f i) (f i) a b)
+-- the same of an array's `map`: each call gives h of the item
+module _ {F A X : Type 0} (g : Mut F (A × Unit {0}) X) (h : A → X) (f : F) (gives : (x : A) (y : X) (q : F) → Called g f (x, tt) y q → (q ≡ f) × (y ≡ h x)) where
+  mapped_from : (xs : List A) (ys : List X) (i n : ℕ) (p : F) → p ≡ f → MapsFrom g p xs ys i n → (k : ℕ) (d : A) (e : X) → i ≤ k → k < i + n → get_or ys k e ≡ h (get_or xs k d)
+  mapped_from xs ys i zero p same made k d e a b = absurd (omega arith)
+  mapped_from xs ys i (suc n) p same made k d e a b =
+      let one = gives made.1 made.2 made.0 (subst (λ (q : F). Called g q (made.1, tt) made.2 made.0) same made.5) in
+      ⊎_elim
+      (λ (z : k ≡ i). ap (λ (j : ℕ). get_or ys j e) z ∙ made.4.1 e ∙ one.1 ∙ ap h (sym (made.3.1 d)) ∙ ap (λ (j : ℕ). h (get_or xs j d)) (sym z))
+      (λ (z : k ≡ i → ⊥). mapped_from xs ys (i + 1) n made.0 one.0 made.6 k d e (omega arith) (omega arith))
+      (cases_eq k i)
 
-pub one_here : (f : ℕ → Bool) (n i : ℕ) → i < n → f i ≡ true → some_below f n ≡ true
-one_here f zero i h e = absurd (not-suc-le-zero h)
-one_here f (suc n) i h e = ⊎_elim (λ (q : i ≡ n). or_right (some_below f n) (f n) (ap f (sym q) ∙ e)) (λ (q : i ≡ n → ⊥). or_left (some_below f n) (f n) (one_here f n i (omega arith) e)) (cases_eq i n)
+  pub map_all : (xs : List A) (ys : List X) (n : ℕ) (d : A) → length xs ≡ n → IsMapOf g f xs ys n → ys ≡ map h xs
+  map_all xs ys n d long made = ext_get_or (h d) ys (map h xs) (made.long ∙ sym (length-map xs h ∙ long)) (λ k l. mapped_from xs ys 0 n f refl made.each k d (h d) (omega arith) (omega (arith, made.long)) ∙ sym (get_or-map h xs k d (h d) (omega (arith, made.long))))
 
-pub none_at_all : (f : ℕ → Bool) (i : ℕ) → 64 ≤ i → i ≤ 64 → some_below f i ≡ false → some_below f 64 ≡ false
-none_at_all f i a b e = let q : 64 ≡ i = omega arith in ap (some_below f) q ∙ e
+-- the lowest number first
+some_lowest : (f : ℕ → Bool) (n : ℕ) → some_below f (suc n) ≡ (f 0 || some_below (λ i. f (suc i)) n)
+some_lowest f zero = or_comm false (f 0)
+some_lowest f (suc n) = ap (λ (b : Bool). b || f (suc n)) (some_lowest f n) ∙ or_assoc (f 0) (some_below (λ i. f (suc i)) n) (f (suc n))
 
+-- a pair of two lists has both exactly where some place has
+pub some_zip : (xs ys : List Bool) (n : ℕ) → length xs ≡ n → length ys ≡ n → list_any (λ p. p.0 && p.1) (zip xs ys) ≡ some_below (λ i. get_or xs i false && get_or ys i false) n
+some_zip [] ys zero a b = refl
+some_zip [] ys (suc n) a b = absurd (omega arith)
+some_zip (x ∷ xs) ys zero a b = absurd (omega arith)
+some_zip (x ∷ xs) [] (suc n) a b = absurd (omega arith)
+some_zip (x ∷ xs) (y ∷ ys) (suc n) a b =
+    ap (λ (z : Bool). (x && y) || z) (some_zip xs ys n (omega arith) (omega arith))
+    ∙ sym (some_lowest (λ i. get_or (x ∷ xs) i false && get_or (y ∷ ys) i false) n)
+
+-- one more time over
 pub spread_step : (i : ℕ) (ts : Slots) (start marks next : List Bool) → marks ≡ spread_for i ts start → next ≡ spread ts marks → next ≡ spread_for (i + 1) ts start
 spread_step i ts start marks next a b = rw add-one (b ∙ ap (spread ts) a)
 

@@ -1,70 +1,52 @@
--- Loops over the slots, a slot at a time. Assumes nothing.
-use Rattle.std.proofs.Common.{◌≡◌, ℕ, suc, ◌+◌, ◌<◌, ◌≤◌, Bool, true, false, cond, ◌&&◌, ltb, List, [], ◌∷◌, map, length, get_or, drop, set, is_some, Some, None, Option, sym, refl, ap, ◌∙◌, arith}
-use Rattle.std.specs.List.{range_with_len}
-use Rattle.std.proofs.lemmas.List.{at_drop_more, at_drop_all, length-map, get_or-map}
-use Rattle.std.proofs.lemmas.List.FromFn.{fill_by_all}
+-- What chains over the slots come to. Assumes nothing.
+use Rattle.std.proofs.Common.{◌≡◌, ℕ, suc, ◌+◌, Bool, true, false, not, ◌&&◌, ltb, List, [], ◌∷◌, set, is_some, Some, None, Option, MatchOption, cond, sym, refl, ap, ◌∙◌, subst, arith, count_by, position}
+use Rattle.std.specs.List.{position_from, list_all}
+use Rattle.std.proofs.lemmas.Iterator.Adapters.{position_from-zero}
+use Rattle.std.proofs.lemmas.List.Sums.{sum_by-cons}
 use Rattle.seeing.specs.declared.Transaction.{Transaction}
 use Rattle.seeing.specs.Slots.{Slots}
+use Rattle.slots.specs.Seats.{is_after}
 use Rattle.rules.specs.Lists.{all, count, used}
 use Rattle.rules.specs.Slots.{seat}
-use Rattle.slots.specs.Seats.{is_after, free_slot}
 
 -- ---- the lowest free slot
 
-pub free_slot_more : (ts : Slots) (i : ℕ) (b : Bool) → i < length ts → is_some (get_or ts i None) ≡ b → free_slot (drop i ts) i ≡ cond b (free_slot (drop (i + 1) ts) (i + 1)) (Some i)
-free_slot_more ts i b h e = at_drop_more (λ xs. free_slot xs i) ts i None h ∙ ap (λ (z : Bool). cond z (free_slot (drop (i + 1) ts) (i + 1)) (Some i)) e
-
-all_taken : (ts : Slots) (i : ℕ) → free_slot ts i ≡ None → all is_some ts ≡ true
-all_taken [] i e = refl
-all_taken (x ∷ ts) i e = go (is_some x) e (all_taken ts (i + 1))
-  where
-    go : (b : Bool) → cond b (free_slot ts (i + 1)) (Some i) ≡ None → (free_slot ts (i + 1) ≡ None → all is_some ts ≡ true) → (b && all is_some ts) ≡ true
-    go true k h = h k
-    go false k h = let z : ◌≡◌ {A = ℕ} 0 1 = cc in absurd (omega arith)
+abbrev pub is_free : Option Transaction → Bool
+is_free x = not (is_some x)
 
 -- the slot p, counted from i, is free, and there a new transaction is seated
-abbrev Seats : Slots → ℕ → ℕ → Type 0
-Seats ts i p = (q : ℕ) × (p ≡ i + q) × (all is_some ts ≡ false) × ((t : Transaction) → seat t ts ≡ set ts q (Some t))
+abbrev SeatsFrom : Slots → ℕ → ℕ → Type 0
+SeatsFrom ts i p = (q : ℕ) × (p ≡ i + q) × (all is_some ts ≡ false) × ((t : Transaction) → seat t ts ≡ set ts q (Some t))
 
-seated : (ts : Slots) (i p : ℕ) → free_slot ts i ≡ Some p → Seats ts i p
-seated [] i p e = let z : ◌≡◌ {A = ℕ} 0 1 = cc in absurd (omega arith)
-seated (None ∷ ts) i p e = let z : i ≡ p = cc in (0, omega arith, refl, λ t. refl)
-seated (Some u ∷ ts) i p e = let w = seated ts (i + 1) p e in (suc w.0, omega (arith, w.1), w.2, λ t. ap (λ xs. Some u ∷ xs) (w.3 t))
+seats_from : (ts : Slots) (i : ℕ) → MatchOption (position_from is_free i ts) (all is_some ts ≡ true) (SeatsFrom ts i)
+seats_from [] i = refl
+seats_from (None ∷ ts) i = (0, omega arith, refl, λ t. refl)
+seats_from (Some u ∷ ts) i = go (position_from is_free (i + 1) ts) (seats_from ts (i + 1))
+  where
+    go : (o : Option ℕ) → MatchOption o (all is_some ts ≡ true) (SeatsFrom ts (i + 1)) → MatchOption o (all is_some ts ≡ true) (SeatsFrom (Some u ∷ ts) i)
+    go None h = h
+    go (Some p) w = (suc w.0, omega (arith, w.1), w.2, λ t. ap (λ xs. Some u ∷ xs) (w.3 t))
 
-pub free_slot_none : (ts : Slots) → None ≡ free_slot ts 0 → all is_some ts ≡ true
-free_slot_none ts e = all_taken ts 0 (sym e)
-
-pub free_slot_some : (ts : Slots) (p : ℕ) → Some p ≡ free_slot ts 0 → (all is_some ts ≡ false) × ((t : Transaction) → seat t ts ≡ set ts p (Some t))
-free_slot_some ts p e =
-    let w = seated ts 0 p (sym e) in
-    let q : w.0 ≡ p = omega (arith, w.1) in
-    (w.2, λ t. w.3 t ∙ ap (λ (r : ℕ). set ts r (Some t)) q)
+pub seats : (ts : Slots) (r : Option ℕ) → r ≡ position is_free ts → MatchOption r (all is_some ts ≡ true) (λ p. (all is_some ts ≡ false) × ((t : Transaction) → seat t ts ≡ set ts p (Some t)))
+seats ts r e = go r (subst (λ o. MatchOption o (all is_some ts ≡ true) (SeatsFrom ts 0)) (sym (e ∙ position_from-zero is_free ts)) (seats_from ts 0))
+  where
+    go : (o : Option ℕ) → MatchOption o (all is_some ts ≡ true) (SeatsFrom ts 0) → MatchOption o (all is_some ts ≡ true) (λ p. (all is_some ts ≡ false) × ((t : Transaction) → seat t ts ≡ set ts p (Some t)))
+    go None h = h
+    go (Some p) w = let q : w.0 ≡ p = omega (arith, w.1) in (w.2, λ t. w.3 t ∙ ap (λ (r : ℕ). set ts r (Some t)) q)
 
 -- ---- who began after a stamp
 
-used_more : (s : ℕ) (x : Option Transaction) (ts : Slots) → all (λ t. ltb s t.name) (used (x ∷ ts)) ≡ (is_after s x && all (λ t. ltb s t.name) (used ts))
-used_more s None ts = refl
-used_more s (Some t) ts = refl
-
-pub after_more : (s : ℕ) (ts : Slots) (i : ℕ) (b : Bool) → i < length ts → is_after s (get_or ts i None) ≡ b → all (λ t. ltb s t.name) (used (drop i ts)) ≡ (b && all (λ t. ltb s t.name) (used (drop (i + 1) ts)))
-after_more s ts i b h e =
-    at_drop_more (λ xs. all (λ t. ltb s t.name) (used xs)) ts i None h
-    ∙ used_more s (get_or ts i None) (drop (i + 1) ts)
-    ∙ ap (λ (z : Bool). z && all (λ t. ltb s t.name) (used (drop (i + 1) ts))) e
+pub after_all : (s : ℕ) (ts : Slots) → list_all (is_after s) ts ≡ all (λ t. ltb s t.name) (used ts)
+after_all s [] = refl
+after_all s (None ∷ ts) = after_all s ts
+after_all s (Some t ∷ ts) = ap (λ (b : Bool). ltb s t.name && b) (after_all s ts)
 
 -- ---- how many marks
 
-pub count_more : (ws : List Bool) (i n r : ℕ) (b : Bool) → i < length ws → get_or ws i false ≡ b → r ≡ cond b (n + 1) n → n + count (λ b. b) (drop i ws) ≡ count (λ b. b) ws → n ≤ i → (r + count (λ b. b) (drop (i + 1) ws) ≡ count (λ b. b) ws) × (r ≤ i + 1)
-count_more ws i n r b h e k inv l = go b (at_drop_more (count (λ b. b)) ws i false h ∙ ap (λ (z : Bool). cond z (count (λ b. b) (drop (i + 1) ws) + 1) (count (λ b. b) (drop (i + 1) ws))) e) k
-  where
-    go : (b : Bool) → count (λ b. b) (drop i ws) ≡ cond b (count (λ b. b) (drop (i + 1) ws) + 1) (count (λ b. b) (drop (i + 1) ws)) → r ≡ cond b (n + 1) n → (r + count (λ b. b) (drop (i + 1) ws) ≡ count (λ b. b) ws) × (r ≤ i + 1)
-    go true s k = (omega (arith, s, k, inv), omega (arith, k, l))
-    go false s k = (omega (arith, s, k, inv), omega (arith, k, l))
+count_all : (ws : List Bool) → count_by (λ b. b) ws ≡ count (λ b. b) ws
+count_all [] = refl
+count_all (true ∷ ws) = let e = count_all ws in omega (arith, sum_by-cons (λ (b : Bool). cond b 1 0) true ws, e)
+count_all (false ∷ ws) = let e = count_all ws in omega (arith, sum_by-cons (λ (b : Bool). cond b 1 0) false ws, e)
 
-pub count_all : (ws : List Bool) (i n : ℕ) → length ws ≤ i → n + count (λ b. b) (drop i ws) ≡ count (λ b. b) ws → n ≡ count (λ b. b) ws
-count_all ws i n h inv = let e : count (λ b. b) (drop i ws) ≡ 0 = at_drop_all (count (λ b. b)) ws i h in omega (arith, e, inv)
-
--- ---- a change of every slot
-
-pub map_counted : (f : Option Transaction → Option Transaction) (ts : Slots) → length ts ≡ 64 → map f ts ≡ map (λ i. f (get_or ts i None)) (range_with_len 0 64)
-map_counted f ts e = fill_by_all (λ i. f (get_or ts i None)) (map f ts) 64 None (length-map ts f ∙ e) (λ k l. get_or-map f ts k None None (omega (arith, e)))
+pub counted : (ws : List Bool) (r : ℕ) → r ≡ count_by (λ b. b) ws → r ≡ count (λ b. b) ws
+counted ws r e = e ∙ count_all ws

@@ -1,4 +1,5 @@
 pub mod Steps
 pub mod Picking
 pub mod Noting
-pub mod Emptying
+pub mod Mapping
+pub mod Lookups

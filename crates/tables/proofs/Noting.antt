@@ -1,9 +1,10 @@
 -- No note, a note refused, and a note made. Assumes nothing.
-use Rattle.std.proofs.Common.{◌≡◌, ℕ, Bool, true, false, cond, not, List, set, Some, None, Ok, Err, Option, sym, refl, ap, ◌∙◌}
+use Rattle.std.proofs.Common.{◌≡◌, ℕ, Bool, true, false, cond, not, List, set, IsErrAnd, Some, None, Ok, Err, Option, Result, MatchOption, sym, refl, ap, ◌∙◌, subst}
 use Rattle.seeing.specs.declared.Transaction.{Transaction}
 use Rattle.rules.specs.declared.Entry.{Entry}
 use Rattle.rules.specs.declared.Note.{Note}
 use Rattle.rules.specs.declared.Noted.{Noted}
+use Rattle.rules.specs.declared.Refusal.{Refusal}
 use Rattle.rules.specs.declared.Refusal.TheVariants as refusal
 use Rattle.rules.specs.Tables.{any_free, is_free, filled}
 use Rattle.rules.specs.Slots.{one_more}
@@ -11,7 +12,9 @@ use Rattle.seeing.specs.Phases.{is_serializable}
 use Rattle.rules.specs.Checks.{Checked, ◌>>◌, refuse_if}
 use Rattle.rules.specs.BookRules.{noting}
 use Rattle.tables.specs.Places.{pick}
-use Rattle.tables.proofs.Steps.{pass, stop}
+use Rattle.tables.specs.Steps.{Gives}
+use Rattle.std.proofs.lemmas.Option.{MatchOption-at_some, MatchOption-at_none}
+use Rattle.tables.proofs.Steps.{pass, stop, exit}
 use Rattle.tables.proofs.Picking.{some_free}
 
 module _ {K : Type 0} (n : ℕ) (t : Transaction) (ns : List (Entry (Note K))) where
@@ -35,15 +38,17 @@ module _ {K : Type 0} (n : ℕ) (t : Transaction) (ns : List (Entry (Note K))) w
       go false = refl
 
 module _ {K : Type 0} (n : ℕ) (t : Transaction) (wanted : Option (Noted K)) (ns : List (Entry (Note K))) where
-  pub none_noted : (p : ℕ) → None ≡ cond (is_serializable t.level) wanted None → noting p n t wanted ns ≡ Ok (t.made, ns)
-  none_noted p e = noting_noted n t ns p wanted ∙ ap (noting_it n t ns p) (sym e)
-
   module _ (hint : ℕ) (what : Noted K) (is : Some what ≡ cond (is_serializable t.level) wanted None) where
-    pub note_refused : any_free ns ≡ false → noting (pick hint ns) n t wanted ns ≡ Err refusal.Notes
+    note_refused : any_free ns ≡ false → noting (pick hint ns) n t wanted ns ≡ Err refusal.Notes
     note_refused e = noting_noted n t ns (pick hint ns) wanted ∙ ap (noting_it n t ns (pick hint ns)) (sym is) ∙ stop (not (any_free ns)) refusal.Notes _ (ap not e)
 
-    pub note_made : (p made : ℕ) (after : List (Entry (Note K))) → (p ≡ pick hint ns) × (is_free ns p ≡ true) → made ≡ one_more t.made → after ≡ set ns p (filled (record { owner = n; number = t.made; noted = what })) → noting (pick hint ns) n t wanted ns ≡ Ok (made, after)
-    note_made p made after e m a =
+    -- none is free: what the `?` gives
+    pub note_unplaced : (o : Option ℕ) (r : Result ℕ Refusal) → MatchOption o (any_free ns ≡ false) (λ p. (p ≡ pick hint ns) × (is_free ns p ≡ true)) → o ≡ None → IsErrAnd r (λ y. y ≡ refusal.Notes) → Gives (noting (pick hint ns) n t wanted ns) ns ns r
+    note_unplaced o r free none h = subst (Gives (noting (pick hint ns) n t wanted ns) ns ns) (sym (exit r refusal.Notes h)) (note_refused (MatchOption-at_none _ _ none free), refl)
+
+    pub note_made : (o : Option ℕ) (p made : ℕ) (after : List (Entry (Note K))) → MatchOption o (any_free ns ≡ false) (λ p. (p ≡ pick hint ns) × (is_free ns p ≡ true)) → o ≡ Some p → made ≡ one_more t.made → after ≡ set ns p (filled (record { owner = n; number = t.made; noted = what })) → noting (pick hint ns) n t wanted ns ≡ Ok (made, after)
+    note_made o p made after free some m a =
+        let e = MatchOption-at_some (any_free ns ≡ false) (λ p. (p ≡ pick hint ns) × (is_free ns p ≡ true)) p some free in
         noting_noted n t ns (pick hint ns) wanted ∙ ap (noting_it n t ns (pick hint ns)) (sym is)
         ∙ pass (not (any_free ns)) refusal.Notes _ (ap not (some_free ns p e.1))
         ∙ (let f = e.0 in λ i. Ok (sym m i, set ns (sym f i) (filled (record { owner = n; number = t.made; noted = what }))))

@@ -1,14 +1,15 @@
 -- Free places of a table, and the one that is picked. Assumes nothing.
-use Rattle.std.proofs.Common.{◌≡◌, ℕ, zero, suc, ◌+◌, ◌<◌, ◌≤◌, Bool, true, false, cond, ◌||◌, T, List, [], ◌∷◌, length, get_or, drop, IfSome, Some, None, Option, unwrap_or, sym, refl, ap, ◌∙◌, subst, le_of_suc-le-suc, not-suc-le-zero, arith, MatchOption, slice_set}
-use Rattle.std.proofs.lemmas.List.{set_past}
+use Rattle.std.proofs.Common.{◌≡◌, ℕ, zero, suc, ◌+◌, ◌<◌, ◌≤◌, Bool, true, false, cond, ◌||◌, not, is_some, ◌-◌, T, List, [], ◌∷◌, length, get_or, drop, IfSome, Some, None, Option, unwrap_or, sym, refl, ap, ◌∙◌, subst, le_of_suc-le-suc, not-suc-le-zero, arith, MatchOption, slice_set}
+use Rattle.std.specs.List.{find, range_with_len}
+use Rattle.std.proofs.lemmas.List.{set_past, at_drop_more, at_drop_all}
 use Rattle.std.proofs.lemmas.Bool.{or_right}
 use Rattle.rules.specs.declared.Entry.{Entry}
-use Rattle.rules.specs.Tables.{entry, free, any_free, is_free, free_from}
+use Rattle.rules.specs.Tables.{entry, free, any_free, is_free, free_from, emptied}
 use Rattle.rules.specs.Worlds.{World, Allowed}
 use Rattle.tables.specs.Places.{search_from, pick}
 
 module _ {A : Type 0} where
-  pub entry_at : (xs : List (Entry A)) (p : ℕ) (d : Entry A) → p < length xs → entry xs p ≡ (get_or xs p d).held
+  entry_at : (xs : List (Entry A)) (p : ℕ) (d : Entry A) → p < length xs → entry xs p ≡ (get_or xs p d).held
   entry_at [] p d h = absurd (not-suc-le-zero h)
   entry_at (x ∷ xs) zero d h = refl
   entry_at (x ∷ xs) (suc p) d h = entry_at xs p d (le_of_suc-le-suc h)
@@ -16,14 +17,22 @@ module _ {A : Type 0} where
   pub held_there : (xs : List (Entry A)) (p : ℕ) (x : Entry A) (r : Option A) → r ≡ x.held → x ≡ get_or xs p x → p < length xs → r ≡ entry xs p
   held_there xs p x r e at h = e ∙ ap (λ y. y.held) at ∙ sym (entry_at xs p x h)
 
-  pub either_way : (o : Option A) (P : Type 0) → P → IfSome o (λ x. P)
-  either_way None P p = tt
-  either_way (Some x) P p = p
-
   pub entry_past : (xs : List (Entry A)) (p : ℕ) → length xs ≤ p → entry xs p ≡ None
   entry_past [] p h = refl
   entry_past (x ∷ xs) zero h = absurd (not-suc-le-zero h)
   entry_past (x ∷ xs) (suc p) h = entry_past xs p (le_of_suc-le-suc h)
+
+  pub held_past : (xs : List (Entry A)) (p : ℕ) (r : Option A) → r ≡ None → length xs ≤ p → r ≡ entry xs p
+  held_past xs p r e h = e ∙ sym (entry_past xs p h)
+
+  -- the first free place of a range is that of the rest of the table
+  pub first_free : (xs : List (Entry A)) (i n : ℕ) → length xs - i ≡ n → find (λ p. not (is_some (entry xs p))) (range_with_len i n) ≡ free_from i (drop i xs)
+  first_free xs i zero e = sym (at_drop_all (free_from i) xs i (omega (arith, e)))
+  first_free xs i (suc n) e =
+      let here : not (is_some (entry xs i)) ≡ free (get_or xs i emptied) = ap (λ o. not (is_some o)) (entry_at xs i emptied (omega (arith, e))) in
+      ap (λ (b : Bool). cond b (Some i) (find (λ p. not (is_some (entry xs p))) (range_with_len (i + 1) n))) here
+      ∙ ap (λ o. cond (free (get_or xs i emptied)) (Some i) o) (first_free xs (i + 1) n (omega (arith, e)))
+      ∙ sym (at_drop_more (free_from i) xs i emptied (omega (arith, e)))
 
   -- a write past the end changes nothing
   pub write_past : (xs : List A) (p : ℕ) (x : A) → length xs ≤ p → xs ≡ slice_set xs p x
@@ -54,7 +63,7 @@ module _ {A : Type 0} where
   free_beyond (suc i) q (x ∷ xs) h = let e : suc i + q ≡ suc (i + q) = omega arith in ap (is_free (x ∷ xs)) e ∙ free_beyond i q xs h
 
   -- a free place lies in the table
-  pub free_inside : (xs : List (Entry A)) (p : ℕ) → is_free xs p ≡ true → p < length xs
+  free_inside : (xs : List (Entry A)) (p : ℕ) → is_free xs p ≡ true → p < length xs
   free_inside [] p h = let z : ◌≡◌ {A = ℕ} 0 1 = cc in absurd (omega arith)
   free_inside (x ∷ xs) zero h = omega arith
   free_inside (x ∷ xs) (suc p) h = let l = free_inside xs p h in omega (arith, l)
@@ -89,12 +98,15 @@ module _ {A : Type 0} where
       go None e h = h
       go (Some p) e h = (ap (λ o. unwrap_or o 0) e, h)
 
-  pub picked_inside : (hint : ℕ) (r : Option ℕ) (xs : List (Entry A)) → Picked hint xs r → IfSome r (λ p. p < length xs)
-  picked_inside hint None xs h = tt
-  picked_inside hint (Some p) xs h = free_inside xs p h.1
+  pub picked_inside : (hint : ℕ) (r : Option ℕ) (xs : List (Entry A)) → r ≡ search_from hint xs → IfSome r (λ p. p < length xs)
+  picked_inside hint r xs e = go r (picked hint r xs e)
+    where
+      go : (r : Option ℕ) → Picked hint xs r → IfSome r (λ p. p < length xs)
+      go None h = tt
+      go (Some p) h = free_inside xs p h.1
 
   -- the place picked is free wherever anything is
-  pub pick_free : (hint : ℕ) (xs : List (Entry A)) → T (any_free xs) → T (is_free xs (pick hint xs))
+  pick_free : (hint : ℕ) (xs : List (Entry A)) → T (any_free xs) → T (is_free xs (pick hint xs))
   pick_free hint xs t = go (search_from hint xs) (found_free hint xs)
     where
       go : (o : Option ℕ) → MatchOption o (any_free xs ≡ false) (λ p. is_free xs p ≡ true) → T (is_free xs (unwrap_or o 0))

@@ -1,12 +1,9 @@
 -- Going through a rule check by check. Assumes nothing.
-use Rattle.std.proofs.Common.{◌≡◌, Bool, true, false, IsErrAnd, Some, None, Ok, Err, Option, Result, refl, ap, ◌∙◌}
+use Rattle.std.proofs.Common.{◌≡◌, Bool, true, false, IsErrAnd, Some, None, Ok, Err, Option, Result, ap, ◌∙◌}
 use Rattle.std.proofs.lemmas.Result.{err_from_is_err_and}
 use Rattle.rules.specs.declared.Refusal.{Refusal}
 use Rattle.rules.specs.declared.Answer.{Answer}
-use Rattle.seeing.specs.declared.Phase.{Phase}
-use Rattle.seeing.specs.declared.Phase.TheVariants.{Active, Preparing, Validated, Committed, Aborted}
 use Rattle.rules.specs.Worlds.{World}
-use Rattle.seeing.specs.Phases.{is_active}
 use Rattle.rules.specs.Checks.{Outcome, Checked, ◌>>=◌, ◌>>◌, refuse_if, some_or, or_as_found}
 
 module _ {B : Type 0} where
@@ -44,13 +41,6 @@ module _ {K V : Type 0} (w : World K V) where
   pub came_to : {m : Outcome K V} (r : World K V × Checked (Answer V)) → m ≡ Ok r → or_as_found w m ≡ r
   unfolding or_as_found
   came_to r e = rw e
-
-pub not_active : (p : Phase) → (p ≡ Active → ⊥) → is_active p ≡ false
-not_active Active h = absurd (h refl)
-not_active (Preparing e) h = refl
-not_active (Validated e) h = refl
-not_active (Committed e) h = refl
-not_active Aborted h = refl
 
 -- what the exit of a `?` returns
 pub exit : {T : Type 0} (r : Result T Refusal) (y : Refusal) → IsErrAnd r (λ z. z ≡ y) → r ≡ Err y

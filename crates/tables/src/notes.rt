@@ -1,6 +1,5 @@
 // Notes of serializable transactions.
-ghost use Rattle.std.specs.Prelude.{◌≡◌, map, if◌then◌else◌, None};
-ghost use Rattle.seeing.specs.Phases.{is_serializable};
+ghost use Rattle.std.specs.Prelude.{◌≡◌, map};
 ghost use Rattle.rules.specs.BookRules.{noting};
 ghost use Rattle.rules.specs.TableRules.{not_of, without_note};
 ghost use Rattle.tables.specs.Places.{pick};
@@ -8,17 +7,7 @@ ghost use Rattle.tables.specs.Steps.{Gives};
 
 use crate::{free_place, replace};
 use rules::{Entry, Note, Noted, Refusal};
-use seeing::{Level, Transaction};
-
-// What is to be noted: nothing, unless the transaction is serializable.
-fn if_serializable<K: Copy>(level: Level, what: Option<Noted<K>>) -> Option<Noted<K>>
-    ensures { result ≡ (if is_serializable level then what else None) }
-{
-    match level {
-        Level::Serializable => what,
-        Level::Snapshot => None,
-    }
-}
+use seeing::Transaction;
 
 /// The note that a serializable transaction makes, in a free entry; the number of its notes then.
 pub fn make_note<K: Copy>(
@@ -30,12 +19,10 @@ pub fn make_note<K: Copy>(
 ) -> Result<u64, Refusal>
     ensures { Gives (noting (pick hint notes.old) name t what notes.old) notes.old notes.new result }
 {
-    let Some(noted) = if_serializable(t.level, what) else {
+    let Some(noted) = what.filter(|_| t.level.is_serializable()) else {
         return Ok(t.made);
     };
-    let Some(place) = free_place(notes, hint) else {
-        return Err(Refusal::Notes);
-    };
+    let place = free_place(notes, hint).ok_or(Refusal::Notes)?;
     let note = Note {
         owner: name,
         number: t.made,
@@ -45,26 +32,14 @@ pub fn make_note<K: Copy>(
     Ok(t.made.saturating_add(1))
 }
 
-// The note, unless the transaction made it.
-fn note_of_others<K: Copy>(name: u64, held: Option<Note<K>>) -> Option<Note<K>>
-    ensures { result ≡ not_of name held }
-{
-    let Some(note) = held else {
-        return None;
-    };
-    if note.owner == name {
-        return None;
-    }
-    Some(note)
-}
-
 fn without_note<K: Copy>(name: u64, entry: &Entry<Note<K>>) -> Entry<Note<K>>
     ensures { result ≡ without_note name entry.now }
 {
-    Entry::holding(note_of_others(name, entry.get()))
+    Entry::holding(entry.get().filter(|note| note.owner != name))
 }
 
 /// The transaction's notes are freed.
+#[tactic(auto, using(crate::proofs::Mapping::mapped_more, crate::proofs::Mapping::mapped_all))]
 pub fn free_notes<K: Copy>(notes: &mut [Entry<Note<K>>], name: u64)
     ensures { notes.new ≡ map (without_note name) notes.old }
 {

@@ -1,36 +1,16 @@
 // Open and tally.
 ghost use Rattle.rules.specs.Worlds.{around};
-ghost use Rattle.std.specs.Prelude.{◌≡◌, nat_lt};
-ghost use Rattle.rules.specs.declared.Answer.TheVariants as answer;
 ghost use Rattle.rules.specs.Index.{meaning};
-ghost use Rattle.rules.specs.Checks.{largest, Comes};
+ghost use Rattle.rules.specs.Checks.{Comes};
 ghost use Rattle.rules.specs.TransactionRules.{tally_rule};
-ghost use Rattle.rules.specs.TableRules.{opened_store, open_rule};
+ghost use Rattle.rules.specs.TableRules.{open_rule};
 
+use crate::LARGEST_STAMP;
 use index::Index;
 use keys::Key;
 use rules::{Answer, Entry, Lengths, Note, Refusal, Store};
 use seeing::Version;
-use tables::{free_all, in_order, is_allowed};
-
-fn is_too_high(stamp: u64) -> bool
-    ensures { result ≡ nat_lt largest stamp }
-{
-    9223372036854775806 < stamp
-}
-
-// A store just opened, with tables of those lengths.
-fn start(versions: usize, notes: usize, stamp: u64) -> Store
-    ensures { result ≡ opened_store versions notes stamp }
-{
-    Store {
-        opened: Some(Lengths { versions, notes }),
-        last: stamp,
-        commits: 0,
-        aborts: 0,
-        slots: [None; 64],
-    }
-}
+use tables::{Sizes, free_all};
 
 /// The store begins anew at the stamp: no transactions, all entries of both tables free, the index empty.
 pub fn open<I: Index, V: Copy>(
@@ -42,23 +22,26 @@ pub fn open<I: Index, V: Copy>(
 ) -> Result<Answer<V>, Refusal>
     ensures { Comes (λ w. open_rule I.Key.Key.order w stamp) (around store.old versions.old notes.old (meaning I.Key.Key.order (I.pairs index.old) (I.limit index.old))) (around store.new versions.new notes.new (meaning I.Key.Key.order (I.pairs index.new) (I.limit index.new))) result }
 {
-    if !is_allowed(versions.len(), notes.len(), index.capacity()) {
+    if !Sizes::of(versions, notes, index).is_allowed() {
         return Err(Refusal::Lengths);
     }
-    if is_too_high(stamp) {
+    if LARGEST_STAMP < stamp {
         return Err(Refusal::OpeningStamp);
     }
-    *store = start(versions.len(), notes.len(), stamp);
+    *store = Store {
+        opened: Some(Lengths {
+            versions: versions.len(),
+            notes: notes.len(),
+        }),
+        last: stamp,
+        commits: 0,
+        aborts: 0,
+        slots: [None; 64],
+    };
     free_all(versions);
     free_all(notes);
     index.clear();
     Ok(Answer::Done)
-}
-
-fn counts<V: Copy>(store: &Store) -> Answer<V>
-    ensures { result ≡ answer.Tallied store.now.commits store.now.aborts }
-{
-    Answer::Tallied(store.commits, store.aborts)
 }
 
 /// The numbers of commits and of aborts since opening.
@@ -70,8 +53,8 @@ pub fn tally<I: Index, V: Copy>(
 ) -> Result<Answer<V>, Refusal>
     ensures { Comes tally_rule (around store.now versions.now notes.now (meaning I.Key.Key.order (I.pairs index.now) (I.limit index.now))) (around store.now versions.now notes.now (meaning I.Key.Key.order (I.pairs index.now) (I.limit index.now))) result }
 {
-    if !in_order(store.opened, versions.len(), notes.len(), index.capacity()) {
+    if !Sizes::of(versions, notes, index).is_in_order(store.opened) {
         return Err(Refusal::Lengths);
     }
-    Ok(counts(store))
+    Ok(Answer::Tallied(store.commits, store.aborts))
 }

@@ -1,7 +1,7 @@
 // Sweep: the versions that no transaction can see any more are freed.
 ghost use Rattle.rules.specs.Checks.{Comes};
 ghost use Rattle.rules.specs.Worlds.{around};
-ghost use Rattle.std.specs.Prelude.{◌≡◌, ◌+◌, ◌^◌, ◌<◌, not, map, is_some, if◌then◌else◌};
+ghost use Rattle.std.specs.Prelude.{◌≡◌, not, map, is_some};
 ghost use Rattle.index.specs.Listed.{listed, keep};
 ghost use Rattle.rules.specs.Lists.{count};
 ghost use Rattle.rules.specs.Tables.{entry};
@@ -14,20 +14,14 @@ use keys::Key;
 use rules::{Answer, Entry, Note, Refusal, Store};
 use seeing::{Slots, Version};
 use slots::is_past;
-use tables::{held_at, in_order, set_at};
+use tables::{Sizes, held_at, set_at};
 
 // The key of the version, if it is to be swept.
 fn key_to_sweep<K: Copy, V: Copy>(slots: &Slots, held: Option<Version<K, V>>) -> Option<K>
     ensures { result ≡ key_to_sweep slots.now held }
 {
-    let Some(version) = held else {
-        return None;
-    };
-    if is_past(slots, version.end) {
-        Some(version.key)
-    } else {
-        None
-    }
+    let version = held?;
+    is_past(slots, version.end).then_some(version.key)
 }
 
 // The entry at the place is freed and its pair taken out, if its version is to be swept; whether so.
@@ -50,13 +44,6 @@ fn sweep_at<I: Index, V: Copy>(
     true
 }
 
-fn one_more_if(more: bool, count: usize) -> usize
-    requires { count + 1 < 2 ^ 64 }
-    ensures { result ≡ (if more then count + 1 else count) }
-{
-    if more { count + 1 } else { count }
-}
-
 // All versions that are to be swept are freed and their pairs taken out; how many.
 fn sweep_all<I: Index, V: Copy>(
     slots: &Slots,
@@ -69,9 +56,11 @@ fn sweep_all<I: Index, V: Copy>(
     ensures limit { I.limit index.new ≡ I.limit index.old }
 {
     let mut count = 0;
+    // By place: a place stands in the index's pairs, and each turn writes the table.
     for place in 0..versions.len() {
-        let swept = sweep_at(slots, versions, index, place);
-        count = one_more_if(swept, count);
+        if sweep_at(slots, versions, index, place) {
+            count += 1;
+        }
     }
     count
 }
@@ -85,7 +74,7 @@ pub fn sweep<I: Index, V: Copy>(
 ) -> Result<Answer<V>, Refusal>
     ensures { Comes (sweep_rule I.Key.Key.order) (around store.now versions.old notes.now (meaning I.Key.Key.order (I.pairs index.old) (I.limit index.old))) (around store.now versions.new notes.now (meaning I.Key.Key.order (I.pairs index.new) (I.limit index.new))) result }
 {
-    if !in_order(store.opened, versions.len(), notes.len(), index.capacity()) {
+    if !Sizes::of(versions, notes, index).is_in_order(store.opened) {
         return Err(Refusal::Lengths);
     }
     Ok(Answer::Number(sweep_all(&store.slots, versions, index)))

@@ -2,5 +2,4 @@ pub mod Above
 pub mod Nexts
 pub mod Testing
 pub mod Turns
-pub mod Lookups
 pub mod Verdicts

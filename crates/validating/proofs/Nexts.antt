@@ -1,6 +1,6 @@
 -- The first of the notes left. Assumes nothing.
-use Rattle.std.proofs.Common.{◌≡◌, ℕ, ◌+◌, ◌-◌, ◌<◌, ◌≤◌, Bool, true, false, cond, ◌&&◌, eqb, leb, List, [], ◌∷◌, length, get_or, drop, Some, None, Option, sym, refl, ap, ◌∙◌, subst, arith}
-use Rattle.std.proofs.lemmas.List.{drop_more, drop_all}
+use Rattle.std.proofs.Common.{◌≡◌, ℕ, ◌+◌, ◌<◌, ◌≤◌, Bool, true, false, cond, ◌&&◌, eqb, leb, List, [], ◌∷◌, ◌++◌, length, Some, None, Option, sym, refl, ap, ◌∙◌, subst, arith}
+use Rattle.std.proofs.lemmas.List.{append-nil, append_assoc, length_push, nil_from_length}
 use Rattle.std.proofs.lemmas.Bool.{leb-true, leb-false, and_parts, and_from, and_right, both_ways}
 use Rattle.rules.specs.declared.Entry.{Entry}
 use Rattle.rules.specs.declared.Note.{Note}
@@ -136,21 +136,25 @@ module _ {K : Type 0} (n : ℕ) where
   next_left last ns None b = b.0
   next_left last ns (Some y) b = b.0
 
-  pub is_next : (last : Option (ℕ × ℕ)) (ns : List (Entry (Note K))) (i : ℕ) (r : Option (ℕ × Note K)) → i ≤ 0 → r ≡ next_from last i (drop i ns) → NextLeft n last ns r
-  is_next last ns i r h e =
-      let z : i ≡ 0 = omega (arith, h) in
-      next_left last ns r (subst (Best last 0 ns) (sym (e ∙ ap (λ (k : ℕ). next_from last k (drop k ns)) z)) (best last 0 ns))
+  -- the loop, from the end of the table to its start: of the notes that it has passed, the first
+  abbrev pub Found : Option (ℕ × ℕ) → List (Entry (Note K)) → List (Entry (Note K)) → Option (ℕ × Note K) → Type 0
+  Found last ns ahead first = (passed : List (Entry (Note K))) × (ns ≡ ahead ++ passed) × (first ≡ next_from last (length ahead) passed)
 
-  -- the loop, from the end of the table to its start
-  pub next_none : (last : Option (ℕ × ℕ)) (ns : List (Entry (Note K))) → None ≡ next_from last (length ns) (drop (length ns) ns)
-  next_none last ns = sym (ap (next_from last (length ns)) (drop_all (length ns) ns (omega arith)))
+  pub next_none : (last : Option (ℕ × ℕ)) (ns ahead : List (Entry (Note K))) → ahead ≡ ns → Found last ns ahead None
+  next_none last ns ahead e = ([], sym e ∙ sym (append-nil ahead), refl)
 
-  pub next_more : (last : Option (ℕ × ℕ)) (ns : List (Entry (Note K))) (i : ℕ) (e : Entry (Note K)) (held : Option (Note K)) (first r : Option (ℕ × Note K)) → 0 < i → i ≤ length ns → e ≡ get_or ns (i - 1) e → held ≡ e.held → first ≡ next_from last i (drop i ns) → r ≡ sooner n last (i - 1) held first → r ≡ next_from last (i - 1) (drop (i - 1) ns)
-  next_more last ns i e held first r h l at is inv k =
-      let z : i ≡ (i - 1) + 1 = omega (arith, h) in
-      k
-      ∙ (λ j. sooner n last (i - 1) ((is ∙ ap (λ e. e.held) at) j) ((inv ∙ ap (λ (m : ℕ). next_from last m (drop m ns)) z) j))
-      ∙ sym (ap (next_from last (i - 1)) (drop_more ns (i - 1) e (omega (arith, h, l))))
+  pub next_more : (last : Option (ℕ × ℕ)) (ns ahead ahead' : List (Entry (Note K))) (first r : Option (ℕ × Note K)) → Found last ns ahead first → (e : Entry (Note K)) (place : ℕ) → ahead ≡ ahead' ++ e ∷ [] → place ≡ length ahead' → r ≡ sooner n last place e.held first → Found last ns ahead' r
+  next_more last ns ahead ahead' first r f e place next at is = (
+    e ∷ f.0,
+    f.1 ∙ ap (λ es. es ++ f.0) next ∙ append_assoc ahead' (e ∷ []) f.0,
+    is ∙ (λ j. sooner n last (at j) e.held ((f.2 ∙ ap (λ i. next_from last i f.0) (ap length next ∙ length_push ahead' e)) j)),
+  )
+
+  pub is_next : (last : Option (ℕ × ℕ)) (ns ahead : List (Entry (Note K))) (r : Option (ℕ × Note K)) → length ahead ≡ 0 → Found last ns ahead r → NextLeft n last ns r
+  is_next last ns ahead r h f =
+      let z : ahead ≡ [] = nil_from_length ahead h in
+      next_left last ns r
+      (subst (Best last 0 ns) (sym (f.2 ∙ (λ j. next_from last (length (z j)) f.0) ∙ ap (next_from last 0) (sym (f.1 ∙ ap (λ es. es ++ f.0) z)))) (best last 0 ns))
 
   -- at the start all notes are left
   pub all_left : (i : ℕ) (ns : List (Entry (Note K))) → notes_of n ns ≡ left_from n None i ns

@@ -1,5 +1,4 @@
 pub mod Order
 pub mod Walk
 pub mod Tested
-pub mod Looking
 pub mod Concluding

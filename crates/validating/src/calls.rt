@@ -1,29 +1,18 @@
 // The call validate.
 ghost use Rattle.rules.specs.Checks.{Comes};
 ghost use Rattle.rules.specs.Worlds.{around};
-ghost use Rattle.std.specs.Prelude.{◌≡◌, ◌<◌, if◌then◌else◌, Some, Ok};
+ghost use Rattle.std.specs.Prelude.{◌≡◌, if◌then◌else◌, Some, Ok};
 ghost use Rattle.seeing.specs.Phases.{is_serializable};
 ghost use Rattle.rules.specs.Index.{meaning};
-ghost use Rattle.rules.specs.Validating.{tests_for, test_all, validated, validate_rule};
-ghost use Rattle.validating.specs.Tested.{Judges};
+ghost use Rattle.rules.specs.Validating.{tests_for, test_all, validate_rule};
 ghost use Rattle.validating.specs.Concluding.{concluded, answer_to};
 
 use crate::checks::test_notes;
-use crate::lookup::find_preparing;
-use crate::{Preparing, Verdict};
 use index::Index;
 use rules::{Answer, Entry, Note, Refusal, Store};
-use seeing::{Level, Phase, Slots, Transaction, Version};
+use seeing::{Phase, Slots, Transaction, Version};
 use slots::abort_one;
-
-fn is_serializable(level: Level) -> bool
-    ensures { result ≡ is_serializable level }
-{
-    match level {
-        Level::Serializable => true,
-        Level::Snapshot => false,
-    }
-}
+use tables::{Seated, Sizes, named};
 
 // What the tests of the transaction come to; at the level snapshot there are none.
 fn verdict_on<I: Index, V: Copy>(
@@ -31,48 +20,40 @@ fn verdict_on<I: Index, V: Copy>(
     versions: &[Entry<Version<I::Key, V>>],
     notes: &[Entry<Note<I::Key>>],
     index: &I,
-    name: u64,
-    one: Preparing,
-) -> Result<Verdict, Refusal>
-    ensures { Judges (if is_serializable one.transaction.level then test_all I.Key.Key.order slots.now versions.now name one.end (tests_for I.Key.Key.order (meaning I.Key.Key.order (I.pairs index.now) (I.limit index.now)) name notes.now) one.transaction.waits else Ok (Some one.transaction.waits)) result }
+    t: &Transaction,
+    end: u64,
+) -> Result<Option<[bool; 64]>, Refusal>
+    ensures { result ≡ (if is_serializable t.now.level then test_all I.Key.Key.order slots.now versions.now t.now.name end (tests_for I.Key.Key.order (meaning I.Key.Key.order (I.pairs index.now) (I.limit index.now)) t.now.name notes.now) t.now.waits else Ok (Some t.now.waits)) }
 {
-    let waits = one.transaction.waits;
-    if !is_serializable(one.transaction.level) {
-        return Ok(Verdict::Passed(waits));
+    if !t.level.is_serializable() {
+        return Ok(Some(t.waits));
     }
-    test_notes(slots, versions, notes, index, name, one.end, waits)
-}
-
-// The transaction with its end stamp validated, waiting on those marked.
-fn validated(t: Transaction, end: u64, waits: [bool; 64]) -> Transaction
-    ensures { result ≡ validated end waits t }
-{
-    Transaction {
-        phase: Phase::Validated(end),
-        waits,
-        ..t
-    }
+    test_notes(slots, versions, notes, index, t.name, end, t.waits)
 }
 
 // The transaction is validated or aborted.
-fn conclude(store: &mut Store, name: u64, one: Preparing, verdict: Verdict)
-    requires { one.slot < 64 }
-    ensures { store.new ≡ concluded name one verdict store.old }
+fn conclude<V: Copy>(
+    store: &mut Store,
+    one: Seated,
+    end: u64,
+    verdict: Option<[bool; 64]>,
+) -> Result<Answer<V>, Refusal>
+    ensures leaves { store.new ≡ concluded one.slot one.transaction end verdict store.old }
+    ensures answers { result ≡ answer_to verdict }
 {
     match verdict {
-        Verdict::Passed(waits) => {
-            store.slots[one.slot] = Some(validated(one.transaction, one.end, waits));
+        Some(waits) => {
+            store.slots[one.slot] = Some(Transaction {
+                phase: Phase::Validated(end),
+                waits,
+                ..one.transaction
+            });
+            Ok(Answer::Done)
         }
-        Verdict::Against => abort_one(store, name),
-    }
-}
-
-fn answer_to<V: Copy>(verdict: Verdict) -> Result<Answer<V>, Refusal>
-    ensures { result ≡ answer_to verdict }
-{
-    match verdict {
-        Verdict::Passed(_) => Ok(Answer::Done),
-        Verdict::Against => Err(Refusal::Validation),
+        None => {
+            abort_one(store, one.transaction.name);
+            Err(Refusal::Validation)
+        }
     }
 }
 
@@ -86,14 +67,8 @@ pub fn validate<I: Index, V: Copy>(
 ) -> Result<Answer<V>, Refusal>
     ensures { Comes (λ w. validate_rule I.Key.Key.order w transaction) (around store.old versions.now notes.now (meaning I.Key.Key.order (I.pairs index.now) (I.limit index.now))) (around store.new versions.now notes.now (meaning I.Key.Key.order (I.pairs index.now) (I.limit index.now))) result }
 {
-    let one = find_preparing(
-        store,
-        versions.len(),
-        notes.len(),
-        index.capacity(),
-        transaction,
-    )?;
-    let verdict = verdict_on(&store.slots, versions, notes, index, transaction, one)?;
-    conclude(store, transaction, one, verdict);
-    answer_to(verdict)
+    let one = named(store, Sizes::of(versions, notes, index), transaction)?;
+    let end = one.sound(one.transaction.phase.if_preparing())?;
+    let verdict = verdict_on(&store.slots, versions, notes, index, &one.transaction, end)?;
+    conclude(store, one, end, verdict)
 }

@@ -3,15 +3,14 @@ ghost use Rattle.std.specs.Prelude.{◌≡◌, ◌<◌, length, OnOk};
 ghost use Rattle.seeing.specs.Changing.{own_work};
 ghost use Rattle.rules.specs.Index.{meaning};
 ghost use Rattle.rules.specs.Validating.{passes, tests_for, test_all};
-ghost use Rattle.validating.specs.Tested.{judged, one_test, Judges};
+ghost use Rattle.validating.specs.Tested.{judged, one_test};
 
-use crate::Verdict;
 use crate::order::next_note;
-use crate::walk::{must_show, next_ahead, past, start_of};
+use crate::walk::{covered, must_show};
 use index::Index;
 use keys::Key;
 use rules::{Entry, Note, Refusal};
-use seeing::{Slots, Version, sees, waits_for};
+use seeing::{Sight, Slots, Version};
 use slots::marked;
 use walks::reach_one;
 
@@ -23,55 +22,45 @@ fn is_own_work<K: Copy, V: Copy>(name: u64, version: &Version<K, V>) -> bool
 }
 
 // The version is visible at the end stamp if it has to be, or was so at the begin stamp, and only then.
-fn is_as_before<K: Copy, V: Copy>(
-    slots: &Slots,
-    name: u64,
-    end: u64,
-    show: bool,
-    version: &Version<K, V>,
-) -> bool
-    ensures { result ≡ passes slots.now name end show version.now }
+fn is_as_before<K: Copy, V: Copy>(at_end: &Sight<'_>, show: bool, version: &Version<K, V>) -> bool
+    ensures { result ≡ passes at_end.now.slots.now at_end.now.reader at_end.now.time show version.now }
 {
-    let expected = show || sees(slots, name, name, version);
-    sees(slots, name, end, version) == expected
+    let at_begin = Sight::at_begin(at_end.slots, at_end.reader);
+    at_end.sees(version) == (show || at_begin.sees(version))
 }
 
-// What the test of a version comes to for the transaction, which ends at that stamp.
+// The marks of those to wait on once the version is tested for the transaction at its end stamp; none if it tells against it.
 fn judge<K: Copy, V: Copy>(
-    slots: &Slots,
-    name: u64,
-    end: u64,
+    at_end: &Sight<'_>,
     show: bool,
     version: &Version<K, V>,
     marks: [bool; 64],
-) -> Verdict
-    ensures { result ≡ judged slots.now name end show version.now marks }
+) -> Option<[bool; 64]>
+    ensures { result ≡ judged at_end.now.slots.now at_end.now.reader at_end.now.time show version.now marks }
 {
-    if is_own_work(name, version) {
-        return Verdict::Passed(marks);
+    if is_own_work(at_end.reader, version) {
+        return Some(marks);
     }
-    if is_as_before(slots, name, end, show, version) {
-        return Verdict::Passed(marked(slots, waits_for(slots, name, end, version), marks));
+    if is_as_before(at_end, show, version) {
+        return Some(marked(at_end.slots, at_end.waits_for(version), marks));
     }
-    Verdict::Against
+    None
 }
 
 /// The test of the version that a pair leads to.
 pub(crate) fn test_one<K: Key, V: Copy>(
-    slots: &Slots,
+    at_end: &Sight<'_>,
     versions: &[Entry<Version<K, V>>],
-    name: u64,
-    end: u64,
     show: bool,
-    pair: (K, usize),
+    key: K,
+    place: usize,
     marks: [bool; 64],
-) -> Result<Verdict, Refusal>
-    ensures says { result ≡ one_test K.Key.order slots.now versions.now name end show pair marks }
-    ensures inside { OnOk result (pair.1 < length versions.now) }
+) -> Result<Option<[bool; 64]>, Refusal>
+    ensures says { result ≡ one_test K.Key.order at_end.now.slots.now versions.now at_end.now.reader at_end.now.time show (key, place) marks }
+    ensures inside { OnOk result (place < length versions.now) }
 {
-    let met = reach_one(slots, versions, pair.0, pair.1)?;
-    let version = met.1;
-    Ok(judge(slots, name, end, show, &version, marks))
+    let (_, version) = reach_one(at_end.slots, versions, key, place)?;
+    Ok(judge(at_end, show, &version, marks))
 }
 
 /// The tests of all that the transaction's notes cover, in the order made, up to the first version that tells against it.
@@ -83,23 +72,27 @@ pub(crate) fn test_notes<I: Index, V: Copy>(
     name: u64,
     end: u64,
     waits: [bool; 64],
-) -> Result<Verdict, Refusal>
-    ensures { Judges (test_all I.Key.Key.order slots.now versions.now name end (tests_for I.Key.Key.order (meaning I.Key.Key.order (I.pairs index.now) (I.limit index.now)) name notes.now) waits) result }
+) -> Result<Option<[bool; 64]>, Refusal>
+    ensures { result ≡ test_all I.Key.Key.order slots.now versions.now name end (tests_for I.Key.Key.order (meaning I.Key.Key.order (I.pairs index.now) (I.limit index.now)) name notes.now) waits }
 {
+    let at_end = Sight {
+        slots,
+        reader: name,
+        time: end,
+    };
     let mut marks = waits;
     let mut last = None;
+    // Not a `for`: the notes are searched one by one in the order made, and the loop is left by its label.
     let verdict = 'notes: loop {
         let Some((place, note)) = next_note(notes, name, last) else {
-            break 'notes Verdict::Passed(marks);
+            break 'notes Some(marks);
         };
         let show = must_show(note.noted);
-        let mut ahead = start_of(note.noted);
-        'pairs: while let Some(pair) = next_ahead(index, ahead) {
-            match test_one(slots, versions, name, end, show, pair, marks)? {
-                Verdict::Passed(next) => marks = next,
-                Verdict::Against => break 'notes Verdict::Against,
+        'pairs: for (key, at) in covered(index, note.noted) {
+            match test_one(&at_end, versions, show, key, at, marks)? {
+                Some(next) => marks = next,
+                None => break 'notes None,
             }
-            ahead = past(ahead, pair.0, pair.1 + 1);
         }
         last = Some((note.number, place));
     };

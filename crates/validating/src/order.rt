@@ -8,10 +8,7 @@ use rules::{Entry, Note};
 fn is_above(last: Option<(u64, usize)>, number: u64, place: usize) -> bool
     ensures { result ≡ above last number place }
 {
-    match last {
-        None => true,
-        Some(met) => met.0 < number || met.0 == number && met.1 < place,
-    }
+    last.is_none_or(|met| met < (number, place))
 }
 
 // The owner made it, and it comes after the last one.
@@ -25,10 +22,7 @@ fn is_left<K: Copy>(owner: u64, last: Option<(u64, usize)>, place: usize, note: 
 fn comes_first<K: Copy>(note: Note<K>, other: Option<(usize, Note<K>)>) -> bool
     ensures { result ≡ comes_first note other }
 {
-    match other {
-        None => true,
-        Some(other) => note.number <= other.1.number,
-    }
+    other.is_none_or(|(_, other)| note.number <= other.number)
 }
 
 // The first of the notes left: what the entry at the place holds, or the first of those further on in the table.
@@ -41,13 +35,9 @@ fn sooner<K: Copy>(
 ) -> Option<(usize, Note<K>)>
     ensures { result ≡ sooner owner last place held first }
 {
-    let Some(note) = held else {
-        return first;
-    };
-    if is_left(owner, last, place, note) && comes_first(note, first) {
-        return Some((place, note));
-    }
-    first
+    held.filter(|note| is_left(owner, last, place, *note) && comes_first(*note, first))
+        .map(|note| (place, note))
+        .or(first)
 }
 
 /// The owner's first note after the last one, with its place.
@@ -58,9 +48,10 @@ pub(crate) fn next_note<K: Copy>(
 ) -> Option<(usize, Note<K>)>
     ensures { NextLeft owner last notes.now result }
 {
+    // A `for`: as a fold, its closure would be this line with a name for each part.
     let mut first = None;
-    for i in (0..notes.len()).rev() {
-        first = sooner(owner, last, i, notes[i].get(), first);
+    for (place, entry) in notes.iter().enumerate().rev() {
+        first = sooner(owner, last, place, entry.get(), first);
     }
     first
 }

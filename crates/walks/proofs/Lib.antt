@@ -1,4 +1,5 @@
 pub mod Walking
+pub mod Stopping
 pub mod Listing
 pub mod Taking
 pub mod Covering

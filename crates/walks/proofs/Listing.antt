@@ -14,37 +14,37 @@ use Rattle.rules.specs.BookRules.{shows, row_of, rows_from}
 use Rattle.walks.specs.Rows.{Listed, listing, one_row}
 use Rattle.tables.proofs.Steps.{pass, stop, go_on, give_up}
 
-module _ {K V : Type 0} (o : K → K → Ordering) (ts : Slots) (vs : List (Entry (Version K V))) (n room : ℕ) (write : Bool) (all : Checked (Listed K V)) (l : Listed K V) (ps : List (K × ℕ)) (inv : all ≡ listing o ts vs n room write l ps) where
+module _ {K V : Type 0} (o : K → K → Ordering) (ts : Slots) (vs : List (Entry (Version K V))) (n room : ℕ) (all : Checked (Listed K V)) (l : Listed K V) (ps : List (K × ℕ)) (inv : all ≡ listing o ts vs n room l ps) where
   pub list_ends : ps ≡ [] → all ≡ Ok l
-  list_ends e = inv ∙ ap (listing o ts vs n room write l) e
+  list_ends e = inv ∙ ap (listing o ts vs n room l) e
 
   module _ (x : K × ℕ) (left : List (K × ℕ)) (next : ps ≡ x ∷ left) where
     abbrev turn : Met K V → Checked (Listed K V)
-    turn y = cond (shows o ts n l.last y.1) (refuse_if (leb room l.count) refusal.Rows >> listing o ts vs n room write (one_row write y.1 l) left) (listing o ts vs n room write l left)
+    turn y = cond (shows o ts n l.last y.1) (refuse_if (leb room l.count) refusal.Rows >> listing o ts vs n room (one_row y.1 l) left) (listing o ts vs n room l left)
 
     pub list_stops : (e : Refusal) → Err e ≡ reached o ts vs x → all ≡ Err e
-    list_stops e h = inv ∙ ap (listing o ts vs n room write l) next ∙ give_up turn (sym h)
+    list_stops e h = inv ∙ ap (listing o ts vs n room l) next ∙ give_up turn (sym h)
 
     module _ (y : Met K V) (h : Ok y ≡ reached o ts vs x) (b : Bool) (is : b ≡ shows o ts n l.last y.1) where
-      turned : all ≡ cond b (refuse_if (leb room l.count) refusal.Rows >> listing o ts vs n room write (one_row write y.1 l) left) (listing o ts vs n room write l left)
+      turned : all ≡ cond b (refuse_if (leb room l.count) refusal.Rows >> listing o ts vs n room (one_row y.1 l) left) (listing o ts vs n room l left)
       turned =
-          inv ∙ ap (listing o ts vs n room write l) next ∙ go_on turn (sym h)
-          ∙ ap (λ (b : Bool). cond b (refuse_if (leb room l.count) refusal.Rows >> listing o ts vs n room write (one_row write y.1 l) left) (listing o ts vs n room write l left)) (sym is)
+          inv ∙ ap (listing o ts vs n room l) next ∙ go_on turn (sym h)
+          ∙ ap (λ (b : Bool). cond b (refuse_if (leb room l.count) refusal.Rows >> listing o ts vs n room (one_row y.1 l) left) (listing o ts vs n room l left)) (sym is)
 
-      pub list_passes : (l' : Listed K V) → b ≡ false → l' ≡ l → all ≡ listing o ts vs n room write l' left
+      pub list_passes : (l' : Listed K V) → b ≡ false → l' ≡ l → all ≡ listing o ts vs n room l' left
       list_passes l' e f =
-          turned ∙ ap (λ (b : Bool). cond b (refuse_if (leb room l.count) refusal.Rows >> listing o ts vs n room write (one_row write y.1 l) left) (listing o ts vs n room write l left)) e
-          ∙ ap (λ (q : Listed K V). listing o ts vs n room write q left) (sym f)
+          turned ∙ ap (λ (b : Bool). cond b (refuse_if (leb room l.count) refusal.Rows >> listing o ts vs n room (one_row y.1 l) left) (listing o ts vs n room l left)) e
+          ∙ ap (λ (q : Listed K V). listing o ts vs n room q left) (sym f)
 
       pub list_full : b ≡ true → room ≤ l.count → all ≡ Err refusal.Rows
       list_full e f =
-          turned ∙ ap (λ (b : Bool). cond b (refuse_if (leb room l.count) refusal.Rows >> listing o ts vs n room write (one_row write y.1 l) left) (listing o ts vs n room write l left)) e
+          turned ∙ ap (λ (b : Bool). cond b (refuse_if (leb room l.count) refusal.Rows >> listing o ts vs n room (one_row y.1 l) left) (listing o ts vs n room l left)) e
           ∙ stop _ _ _ (le-leb room l.count f)
 
-      pub list_writes : (l' : Listed K V) → b ≡ true → l.count < room → l' ≡ one_row write y.1 l → all ≡ listing o ts vs n room write l' left
+      pub list_writes : (l' : Listed K V) → b ≡ true → l.count < room → l' ≡ one_row y.1 l → all ≡ listing o ts vs n room l' left
       list_writes l' e f q =
-          turned ∙ ap (λ (b : Bool). cond b (refuse_if (leb room l.count) refusal.Rows >> listing o ts vs n room write (one_row write y.1 l) left) (listing o ts vs n room write l left)) e
-          ∙ pass _ _ _ (lt-leb room l.count f) ∙ ap (λ (q : Listed K V). listing o ts vs n room write q left) (sym q)
+          turned ∙ ap (λ (b : Bool). cond b (refuse_if (leb room l.count) refusal.Rows >> listing o ts vs n room (one_row y.1 l) left) (listing o ts vs n room l left)) e
+          ∙ pass _ _ _ (lt-leb room l.count f) ∙ ap (λ (q : Listed K V). listing o ts vs n room q left) (sym q)
 
 -- ---- what it comes to where all versions are reached
 
@@ -64,39 +64,31 @@ module _ {K V : Type 0} (o : K → K → Ordering) (ts : Slots) (vs : List (Entr
       go (Ok y) a (Err r) b k ih = let z : ◌≡◌ {A = ℕ} 0 1 = cc in absurd (omega arith)
       go (Err r) a ms b k ih = let z : ◌≡◌ {A = ℕ} 0 1 = cc in absurd (omega arith)
 
-  module _ (n room : ℕ) (write : Bool) where
+  module _ (n room : ℕ) where
     -- all rows fit and are listed, or there are more than fit
     abbrev pub Fits : Listed K V → List (Row K V) → Checked (Listed K V) → Type 0
     Fits l rows m =
-        ((l.count + length rows ≤ room) × ((l' : Listed K V) × (m ≡ Ok l') × (l'.count ≡ l.count + length rows) × (l'.table ≡ cond write (sets l.table l.count rows) l.table)))
+        ((l.count + length rows ≤ room) × ((l' : Listed K V) × (m ≡ Ok l') × (l'.count ≡ l.count + length rows) × (l'.table ≡ sets l.table l.count rows)))
         ⊎ ((room < l.count + length rows) × (m ≡ Err refusal.Rows))
 
-    same_write : (b : Bool) (table : List (Row K V)) (i : ℕ) (r : Row K V) (rs : List (Row K V)) → cond b (sets (cond b (set table i r) table) (i + 1) rs) (cond b (set table i r) table) ≡ cond b (sets table i (r ∷ rs)) table
-    same_write true table i r rs = ap (λ (j : ℕ). sets (set table i r) j rs) (add-one i)
-    same_write false table i r rs = refl
-
-    pub fits : {ps : List (K × ℕ)} {met : List (Met K V)} → Reaches o ts vs ps met → (l : Listed K V) → l.count ≤ room → Fits l (rows_from o ts n l.last met) (listing o ts vs n room write l ps)
-    fits none l h = inl (omega arith, (l, refl, omega arith, nothing write l.table))
+    pub fits : {ps : List (K × ℕ)} {met : List (Met K V)} → Reaches o ts vs ps met → (l : Listed K V) → l.count ≤ room → Fits l (rows_from o ts n l.last met) (listing o ts vs n room l ps)
+    fits none l h = inl (omega arith, (l, refl, omega arith, refl))
+    fits (one {x} {xs} {y} {ys} a rest) l h = go (shows o ts n l.last y.1) refl (fits rest l h) (fits rest (one_row y.1 l))
       where
-        nothing : (b : Bool) (t : List (Row K V)) → t ≡ cond b t t
-        nothing true t = refl
-        nothing false t = refl
-    fits (one {x} {xs} {y} {ys} a rest) l h = go (shows o ts n l.last y.1) refl (fits rest l h) (fits rest (one_row write y.1 l))
-      where
-        go : (b : Bool) → shows o ts n l.last y.1 ≡ b → Fits l (rows_from o ts n l.last ys) (listing o ts vs n room write l xs) →
-            (l.count + 1 ≤ room → Fits (one_row write y.1 l) (rows_from o ts n (Some y.1.key) ys) (listing o ts vs n room write (one_row write y.1 l) xs)) →
-            Fits l (cond b (row_of y.1 ∷ rows_from o ts n (Some y.1.key) ys) (rows_from o ts n l.last ys)) (listing o ts vs n room write l (x ∷ xs))
-        go false s ih ih' = subst (Fits l (rows_from o ts n l.last ys)) (sym (list_passes o ts vs n room write _ l (x ∷ xs) refl x xs refl y (sym a) false (sym s) l refl refl)) ih
+        go : (b : Bool) → shows o ts n l.last y.1 ≡ b → Fits l (rows_from o ts n l.last ys) (listing o ts vs n room l xs) →
+            (l.count + 1 ≤ room → Fits (one_row y.1 l) (rows_from o ts n (Some y.1.key) ys) (listing o ts vs n room (one_row y.1 l) xs)) →
+            Fits l (cond b (row_of y.1 ∷ rows_from o ts n (Some y.1.key) ys) (rows_from o ts n l.last ys)) (listing o ts vs n room l (x ∷ xs))
+        go false s ih ih' = subst (Fits l (rows_from o ts n l.last ys)) (sym (list_passes o ts vs n room _ l (x ∷ xs) refl x xs refl y (sym a) false (sym s) l refl refl)) ih
         go true s ih ih' =
             ⊎_elim
             (λ (lt : l.count < room).
-            let m = list_writes o ts vs n room write _ l (x ∷ xs) refl x xs refl y (sym a) true (sym s) (one_row write y.1 l) refl lt refl in
+            let m = list_writes o ts vs n room _ l (x ∷ xs) refl x xs refl y (sym a) true (sym s) (one_row y.1 l) refl lt refl in
             ⊎_elim
-            (λ (r : (l.count + 1 + length (rows_from o ts n (Some y.1.key) ys) ≤ room) × ((l' : Listed K V) × (listing o ts vs n room write (one_row write y.1 l) xs ≡ Ok l') × (l'.count ≡ l.count + 1 + length (rows_from o ts n (Some y.1.key) ys)) × (l'.table ≡ cond write (sets (one_row write y.1 l).table (l.count + 1) (rows_from o ts n (Some y.1.key) ys)) (one_row write y.1 l).table))).
-            inl (omega (arith, r.0), (r.1.0, m ∙ r.1.1, omega (arith, r.1.2), r.1.3 ∙ same_write write l.table l.count (row_of y.1) (rows_from o ts n (Some y.1.key) ys))))
-            (λ (r : (room < l.count + 1 + length (rows_from o ts n (Some y.1.key) ys)) × (listing o ts vs n room write (one_row write y.1 l) xs ≡ Err refusal.Rows)).
+            (λ (r : (l.count + 1 + length (rows_from o ts n (Some y.1.key) ys) ≤ room) × ((l' : Listed K V) × (listing o ts vs n room (one_row y.1 l) xs ≡ Ok l') × (l'.count ≡ l.count + 1 + length (rows_from o ts n (Some y.1.key) ys)) × (l'.table ≡ sets (one_row y.1 l).table (l.count + 1) (rows_from o ts n (Some y.1.key) ys)))).
+            inl (omega (arith, r.0), (r.1.0, m ∙ r.1.1, omega (arith, r.1.2), r.1.3 ∙ ap (λ (j : ℕ). sets (set l.table l.count (row_of y.1)) j (rows_from o ts n (Some y.1.key) ys)) (add-one l.count))))
+            (λ (r : (room < l.count + 1 + length (rows_from o ts n (Some y.1.key) ys)) × (listing o ts vs n room (one_row y.1 l) xs ≡ Err refusal.Rows)).
             inr (omega (arith, r.0), m ∙ r.1))
             (ih' (omega arith)))
             (λ (ge : room ≤ l.count).
-            inr (omega arith, list_full o ts vs n room write _ l (x ∷ xs) refl x xs refl y (sym a) true (sym s) refl ge))
+            inr (omega arith, list_full o ts vs n room _ l (x ∷ xs) refl x xs refl y (sym a) true (sym s) refl ge))
             (cases_lt l.count room)

@@ -1,6 +1,7 @@
 -- A new version in a free entry and in the index. Assumes nothing.
-use Rattle.std.proofs.Common.{◌≡◌, ℕ, true, false, cond, not, leb, List, length, set, Ok, Err, Result, Ordering, sym, ap, ◌∙◌, arith}
+use Rattle.std.proofs.Common.{◌≡◌, ℕ, true, false, cond, not, leb, List, length, set, Ok, Err, Result, is_ok, true≢false, Ordering, sym, ap, ◌∙◌, arith}
 use Rattle.std.specs.List.{IsDistinct}
+use Rattle.std.specs.Result.{MatchResult}
 use Rattle.std.proofs.lemmas.Bool.{le-leb, lt-leb, and_from, and_left, and_right, not_from_true, not_from_false}
 use Rattle.keys.specs.Laws.{TotalOrder}
 use Rattle.index.specs.Sets.{tie, holds}
@@ -19,7 +20,7 @@ use Rattle.rules.specs.BookRules.{adding}
 use Rattle.seeing.specs.Changing.{new_version}
 use Rattle.rules.specs.Index.{meaning}
 use Rattle.walks.specs.declared.FaultFor.{FaultFor}
-use Rattle.walks.specs.Faults.{full_for, on_behalf}
+use Rattle.walks.specs.Faults.{full_for}
 use Rattle.tables.specs.Places.{pick}
 use Rattle.tables.proofs.Steps.{pass, stop}
 use Rattle.tables.proofs.Picking.{some_free}
@@ -56,21 +57,18 @@ module _ {K V : Type 0} (o : K → K → Ordering) (laws : TotalOrder o) (xs ys 
       )
 
   -- what the fault of a put comes to at the exit of `?`
-  pub refused_to_add : (r : Result Put IndexFault) (y : FaultFor) → Err y ≡ on_behalf n r → PutSays o xs ys limit (k, p) r →
+  pub refused_to_add : (r : Result Put IndexFault) (y : FaultFor) (Made : IndexFault → Type 0) → ((e : IndexFault) → Made e → y ≡ record { transaction = n; fault = e }) → false ≡ is_ok r → MatchResult r (λ z. ◌≡◌ {A = Result Put FaultFor} (Err y) (Ok z)) Made → PutSays o xs ys limit (k, p) r →
       (adding o (pick hint vs) n k x (vs, meaning o xs limit) ≡ Err (full_for y)) × (◌≡◌ {A = List (Entry (Version K V)) × index.Index K} (vs, meaning o ys limit') (vs, meaning o xs limit))
-  refused_to_add (Ok z) y is says = let z : ◌≡◌ {A = ℕ} 0 1 = cc in absurd (omega arith)
-  refused_to_add (Err m) y is says =
-      let same : ◌≡◌ {A = FaultFor} (record { transaction = n; fault = m }) y = cc in
-      let f = full_to_add m says in
-      (f.0 ∙ ap (λ b. Err (full_for b)) same, f.1)
+  refused_to_add (Ok z) y Made made none is says = absurd (true≢false (sym none))
+  refused_to_add (Err m) y Made made none is says = let f = full_to_add m says in (f.0 ∙ ap (λ b. Err (full_for b)) (sym (made m is)), f.1)
 
   -- and what the rest of the call leaves
-  pub added : (r : Result Put IndexFault) (z : Put) (v : Version K V) (vs' : List (Entry (Version K V))) → Ok z ≡ on_behalf n r → PutSays o xs ys limit (k, p) r → v ≡ new_version n k x → vs' ≡ set vs p (filled v) →
+  pub added : (r : Result Put IndexFault) (v : Version K V) (vs' : List (Entry (Version K V))) → true ≡ is_ok r → PutSays o xs ys limit (k, p) r → v ≡ new_version n k x → vs' ≡ set vs p (filled v) →
       adding o (pick hint vs) n k x (vs, meaning o xs limit) ≡ Ok (vs', meaning o ys limit')
-  added (Ok w) z v vs' is says ev es =
+  added (Ok w) v vs' is says ev es =
       let q = put_in w says in
       ap (λ (q : ℕ). adding o q n k x (vs, meaning o xs limit)) (sym e.0)
       ∙ pass (not (any_free vs)) refusal.Versions _ (ap not (some_free vs p e.1))
       ∙ pass (index.says_full o (meaning o xs limit) k p) (refusal.Full n (record { capacity = limit })) _ q.0
       ∙ (let q₁ = q.1 in let f = sym (es ∙ ap (λ (w : Version K V). set vs p (filled w)) ev) in λ j. Ok (f j, q₁ j))
-  added (Err m) z v vs' is says ev es = let z : ◌≡◌ {A = ℕ} 0 1 = cc in absurd (omega arith)
+  added (Err m) v vs' is says ev es = absurd (true≢false is)

@@ -1,5 +1,5 @@
 -- Listing the rows of some keys. Assumes nothing.
-use Rattle.std.specs.Prelude.{◌≡◌, ℕ, ◌+◌, Bool, cond, List, [], ◌∷◌, Some, Ok, Err, Option, Result, nat_le, slice_set}
+use Rattle.std.specs.Prelude.{◌≡◌, ℕ, ◌+◌, cond, List, [], ◌∷◌, Some, Ok, Err, Option, Result, nat_le, slice_set}
 use Rattle.std.specs.declared.cmp.Ordering.{Ordering}
 use Rattle.seeing.specs.declared.Version.{Version}
 use Rattle.seeing.specs.Slots.{Slots}
@@ -11,7 +11,7 @@ use Rattle.rules.specs.Checks.{Checked, ◌>>=◌, ◌>>◌, refuse_if}
 use Rattle.rules.specs.Reaching.{reached}
 use Rattle.rules.specs.BookRules.{shows, row_of}
 
--- where a listing of rows stands: the key of the last row, how many rows, and the row table
+-- where a listing of rows stands: the key of the last row, how many rows, and the row table, which is empty where rows are only counted
 pub record Listed (K V : Type 0) : Type 0 where
   pub last : Option K
   pub count : ℕ
@@ -19,20 +19,20 @@ pub record Listed (K V : Type 0) : Type 0 where
 
 module _ {K V : Type 0} where
   -- with the row of the version
-  abbrev pub one_row : Bool → Version K V → Listed K V → Listed K V
-  one_row write v l = record { last = Some v.key; count = l.count + 1; table = cond write (slice_set l.table l.count (row_of v)) l.table }
+  abbrev pub one_row : Version K V → Listed K V → Listed K V
+  one_row v l = record { last = Some v.key; count = l.count + 1; table = slice_set l.table l.count (row_of v) }
 
 module _ {K V : Type 0} (order : K → K → Ordering) where
-  -- the rows of the versions that the pairs lead to, written or only counted, as far as there is room
-  abbrev pub listing : Slots → List (Entry (Version K V)) → ℕ → ℕ → Bool → Listed K V → List (K × ℕ) → Checked (Listed K V)
-  listing ts vs n room write l [] = Ok l
-  listing ts vs n room write l (x ∷ xs) = do
+  -- the rows of the versions that the pairs lead to, as far as there is room
+  abbrev pub listing : Slots → List (Entry (Version K V)) → ℕ → ℕ → Listed K V → List (K × ℕ) → Checked (Listed K V)
+  listing ts vs n room l [] = Ok l
+  listing ts vs n room l (x ∷ xs) = do
     y ← reached order ts vs x
     cond (shows order ts n l.last y.1)
         (do
           refuse_if (nat_le room l.count) refusal.Rows
-          listing ts vs n room write (one_row write y.1 l) xs)
-        (listing ts vs n room write l xs)
+          listing ts vs n room (one_row y.1 l) xs)
+        (listing ts vs n room l xs)
 
 module _ {K V : Type 0} where
   -- a listing gives its count and leaves its table

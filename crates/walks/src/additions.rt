@@ -5,10 +5,10 @@ ghost use Rattle.rules.specs.Index.{meaning};
 ghost use Rattle.rules.specs.BookRules.{adding, adding_if};
 ghost use Rattle.tables.specs.Places.{pick};
 ghost use Rattle.tables.specs.Steps.{Leaves};
-ghost use Rattle.walks.specs.Faults.{full_for, on_behalf};
+ghost use Rattle.walks.specs.Faults.{full_for};
 
 use crate::FaultFor;
-use index::{Index, IndexFault};
+use index::Index;
 use rules::{Entry, Refusal};
 use seeing::{Begin, End, Version};
 use tables::{free_place, replace};
@@ -21,17 +21,8 @@ impl From<FaultFor> for Refusal {
     }
 }
 
-// The result, with the transaction beside a fault.
-fn on_behalf<T>(transaction: u64, res: Result<T, IndexFault>) -> Result<T, FaultFor>
-    ensures { result ≡ on_behalf transaction res }
-{
-    match res {
-        Ok(x) => Ok(x),
-        Err(fault) => Err(FaultFor { transaction, fault }),
-    }
-}
-
 // A version that the transaction makes.
+// Its parameters are the parts of the version that it makes.
 fn new_version<K: Copy, V: Copy>(name: u64, key: K, value: V) -> Version<K, V>
     ensures { result ≡ new_version name key value }
 {
@@ -57,7 +48,10 @@ pub fn add<I: Index, V: Copy>(
     let Some(place) = free_place(versions, hint) else {
         return Err(Refusal::Versions);
     };
-    let _put = on_behalf(name, index.put(key, place))?;
+    index.put(key, place).map_err(|fault| FaultFor {
+        transaction: name,
+        fault,
+    })?;
     replace(versions, place, new_version(name, key, value));
     Ok(place)
 }

@@ -5,7 +5,7 @@ ghost use Rattle.rules.specs.Reaching.{fitting, reached};
 
 use keys::Key;
 use rules::{Entry, Refusal};
-use seeing::{Slots, Version, is_known};
+use seeing::{End, Slots, Version};
 use tables::held_at;
 
 // The version is under the key, and names no unknown transaction.
@@ -13,11 +13,12 @@ fn is_fitting<K: Key, V: Copy>(slots: &Slots, key: K, version: &Version<K, V>) -
     ensures { result ≡ fitting K.Key.order slots.now key version.now }
 {
     key.compare(&version.key).is_eq()
-        && is_known(slots, version.begin.as_end())
-        && is_known(slots, version.end)
+        && End::from(version.begin).is_known(slots)
+        && version.end.is_known(slots)
 }
 
 /// The place and the version that a pair of the index, or a note, leads to.
+// A pair, and no struct: the rules' definitions speak of the two as a pair.
 pub fn reach_one<K: Key, V: Copy>(
     slots: &Slots,
     versions: &[Entry<Version<K, V>>],
@@ -27,11 +28,8 @@ pub fn reach_one<K: Key, V: Copy>(
     ensures says { result ≡ reached K.Key.order slots.now versions.now (key, place) }
     ensures inside { OnOk result (place < length versions.now) }
 {
-    let Some(version) = held_at(versions, place) else {
-        return Err(Refusal::Version);
-    };
-    if !is_fitting(slots, key, &version) {
-        return Err(Refusal::Version);
-    }
-    Ok((place, version))
+    held_at(versions, place)
+        .filter(|version| is_fitting(slots, key, version))
+        .map(|version| (place, version))
+        .ok_or(Refusal::Version)
 }

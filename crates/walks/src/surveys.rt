@@ -3,62 +3,40 @@ ghost use Rattle.std.specs.Prelude.{◌≡◌};
 ghost use Rattle.index.specs.Listed.{rest};
 ghost use Rattle.walks.specs.Walk.{also, start, walk};
 
-use crate::{Survey, reach_one};
-use index::{Index, next_pair};
-use rules::{Entry, Refusal};
-use seeing::{Slots, Version, is_too_new, sees, waits_for};
+use crate::{Search, Survey, reach_one};
+use index::{Index, pairs_between};
+use rules::Refusal;
+use seeing::{Sight, Version};
 use slots::marked;
 
-// What has been found once a version more is met.
-fn meet<K: Copy, V: Copy>(
-    slots: &Slots,
-    name: u64,
-    survey: Survey<K, V>,
-    met: (usize, Version<K, V>),
-) -> Survey<K, V>
-    ensures { result ≡ also slots.now name survey met }
-{
-    let (place, version) = met;
-    let visible = sees(slots, name, name, &version);
-    let waits = marked(slots, waits_for(slots, name, name, &version), survey.waits);
-    let newer = survey.newer || is_too_new(slots, name, version.begin, version.end);
-    let seen = match survey.seen {
-        Some(y) => Some(y),
-        None => {
-            if visible {
-                Some((place, version))
-            } else {
-                None
-            }
+impl<I: Index, V: Copy> Search<'_, I, V> {
+    // What has been found once a version more is met.
+    fn meet(&self, survey: Survey<I::Key, V>, met: (usize, Version<I::Key, V>)) -> Survey<I::Key, V>
+        ensures { result ≡ also self.now.slots.now self.now.name survey met }
+    {
+        let (_, version) = met;
+        let sight = Sight::at_begin(self.slots, self.name);
+        Survey {
+            seen: survey.seen.or(sight.sees(&version).then_some(met)),
+            waits: marked(self.slots, sight.waits_for(&version), survey.waits),
+            newer: survey.newer || version.begin.is_too_new(version.end, self.slots, self.name),
         }
-    };
-    Survey { seen, waits, newer }
-}
-
-/// What the transaction finds in a walk over the versions of the keys from lower to upper, by key and then place.
-pub fn survey_keys<I: Index, V: Copy>(
-    slots: &Slots,
-    versions: &[Entry<Version<I::Key, V>>],
-    index: &I,
-    name: u64,
-    lower: I::Key,
-    upper: I::Key,
-    waits: [bool; 64],
-) -> Result<Survey<I::Key, V>, Refusal>
-    ensures { result ≡ walk I.Key.Key.order slots.now versions.now name (start waits) (rest I.Key.Key.order lower 0 upper (I.pairs index.now)) }
-{
-    let mut survey = Survey {
-        seen: None,
-        waits,
-        newer: false,
-    };
-    let mut key = lower;
-    let mut from = 0;
-    while let Some(pair) = next_pair(index, key, from, upper) {
-        let met = reach_one(slots, versions, pair.0, pair.1)?;
-        survey = meet(slots, name, survey, met);
-        key = pair.0;
-        from = pair.1 + 1;
     }
-    Ok(survey)
+
+    #[tactic(auto, using(crate::proofs::Stopping::walk_begins, crate::proofs::Walking::walk_ends))]
+    /// What the transaction finds in the walk; `waits` are the marks of those that it waits on already.
+    pub fn survey(&self, waits: [bool; 64]) -> Result<Survey<I::Key, V>, Refusal>
+        ensures { result ≡ walk I.Key.Key.order self.now.slots.now self.now.versions.now self.now.name (start waits) (rest I.Key.Key.order self.now.lower 0 self.now.upper (I.pairs self.now.index.now)) }
+    {
+        let mut survey = Survey {
+            seen: None,
+            waits,
+            newer: false,
+        };
+        for (key, place) in pairs_between(self.index, self.lower, self.upper) {
+            let met = reach_one(self.slots, self.versions, key, place)?;
+            survey = self.meet(survey, met);
+        }
+        Ok(survey)
+    }
 }

@@ -1,11 +1,8 @@
-use Rattle.std.proofs.Common.{ℕ, false, get_or, None}
+use Rattle.std.proofs.Common.{false, get_or, None, rules}
 use Rattle.rules.specs.Aborting.{after_abort, doom_marked}
-use Rattle.slots.proofs.Filled.{fill_step, fill_end}
+use Rattle.slots.proofs.Filled.{from_fn_all}
 use Rattle.slots.proofs.aborts.doom_slots.Goals as goal
-
-pub loop-i-preserved : goal.loop-i-preserved
-loop-i-preserved c = fill_step (λ (k : ℕ). after_abort c.args.name (get_or c.args.marks.now k false) (get_or c.args.slots k None)) c.loop-i.after c.loop-i.i None c.fate.result c.loop-i-test.true c.loop-i.invariant c.fate.ensures
 
 pub returns : goal.returns
 unfolding doom_marked
-returns c = fill_end (λ (k : ℕ). after_abort c.args.name (get_or c.args.marks.now k false) (get_or c.args.slots k None)) c.loop-i.after c.loop-i.i None c.loop-i-test.false c.loop-i.invariant
+returns c = from_fn_all _ (λ k. after_abort c.args.name (get_or c.args.marks.now k false) (get_or c.args.slots k None)) _ (λ i y q k. search rules) c.from_fn.result 64 None c.from_fn.ensures.items

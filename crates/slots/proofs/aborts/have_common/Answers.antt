@@ -1,15 +1,12 @@
-use Rattle.std.proofs.Common.{false, ◌&&◌, get_or, sym}
+use Rattle.std.proofs.Common.{rules, tests, ◌&&◌, ◌∙◌}
+use Rattle.std.proofs.lemmas.Iterator.{YieldsList-from_slice, YieldsList-from_zip}
+use Rattle.std.proofs.lemmas.Iterator.Search.{any_from_yields_List}
 use Rattle.rules.specs.Aborting.{meets}
-use Rattle.slots.proofs.Filled.{none_yet, one_here, none_at_all}
+use Rattle.slots.proofs.Filled.{some_zip}
 use Rattle.slots.proofs.aborts.have_common.Goals as goal
-
-pub returns-then-both : goal.returns-then-both
-unfolding meets
-returns-then-both c = sym (one_here (λ i. get_or c.args.xs.now i false && get_or c.args.ys.now i false) 64 c.loop-i.i c.loop-i-test.true (sym c.if-both.ensures))
-
-pub loop-i-preserved : goal.loop-i-preserved
-loop-i-preserved c = none_yet (λ i. get_or c.args.xs.now i false && get_or c.args.ys.now i false) c.loop-i.i c.loop-i.invariant (sym c.if-both.ensures)
 
 pub returns : goal.returns
 unfolding meets
-returns c = sym (none_at_all (λ i. get_or c.args.xs.now i false && get_or c.args.ys.now i false) c.loop-i.i c.loop-i-test.false c.loop-i.auto.i-end c.loop-i.invariant)
+returns c =
+    any_from_yields_List (λ p. p.0 && p.1) c.any.new.self _ _ c.any.ensures.ran (YieldsList-from_zip (YieldsList-from_slice c.args.xs.now cc) (YieldsList-from_slice c.args.ys.now cc)) (λ x b q k. search (rules, tests))
+    ∙ some_zip c.args.xs.now c.args.ys.now 64 c.told-xs c.told-ys

@@ -1,14 +1,11 @@
-use Rattle.std.proofs.Common.{ltb, sym, ◌∙◌, arith}
-use Rattle.std.proofs.lemmas.List.{at_drop_all}
-use Rattle.rules.specs.Lists.{all, used}
-use Rattle.slots.proofs.Seating.{after_more}
+use Rattle.std.proofs.Common.{◌∙◌, rules, tests}
+use Rattle.std.proofs.lemmas.Iterator.{YieldsList-from_slice}
+use Rattle.std.proofs.lemmas.Iterator.Search.{all_from_yields_List}
+use Rattle.slots.specs.Seats.{is_after}
+use Rattle.slots.proofs.Seating.{after_all}
 use Rattle.slots.proofs.seats.all_after.Goals as goal
 
-pub returns-then-not-is_after : goal.returns-then-not-is_after
-returns-then-not-is_after c = sym (c.loop-i.invariant.0 ∙ after_more c.args.stamp c.args.slots.now c.loop-i.i _ (omega arith) (sym c.if-not-is_after.ensures))
-
-pub loop-i-preserved : goal.loop-i-preserved
-loop-i-preserved c = (c.loop-i.invariant.0 ∙ after_more c.args.stamp c.args.slots.now c.loop-i.i _ (omega arith) (sym c.if-not-is_after.ensures), c.told-slots)
-
 pub returns : goal.returns
-returns c = sym (c.loop-i.invariant.0 ∙ at_drop_all (λ xs. all (λ t. ltb c.args.stamp t.name) (used xs)) c.args.slots.now c.loop-i.i (omega arith))
+returns c =
+    all_from_yields_List (is_after c.args.stamp) c.all.new.self _ _ c.all.ensures.ran (YieldsList-from_slice c.args.slots.now cc) (λ x b q k. search (rules, tests))
+    ∙ after_all c.args.stamp c.args.slots.now

@@ -1,18 +1,10 @@
-use Rattle.std.proofs.Common.{◌≡◌, Some, None, sym, ◌∙◌, arith}
-use Rattle.std.proofs.lemmas.List.{at_drop_all}
-use Rattle.slots.specs.Seats.{free_slot}
-use Rattle.slots.proofs.Seating.{free_slot_more, free_slot_none, free_slot_some}
+use Rattle.std.proofs.Common.{rules, tests}
+use Rattle.std.proofs.lemmas.Iterator.{YieldsList-from_slice}
+use Rattle.std.proofs.lemmas.Iterator.Search.{position_from_yields_List}
+use Rattle.slots.proofs.Seating.{is_free, seats}
 use Rattle.slots.proofs.seats.free_slot.Goals as goal
 
-pub returns-then-not-is_taken : goal.returns-then-not-is_taken
-returns-then-not-is_taken c =
-    let e : Some c.loop-i.i ≡ free_slot c.args.slots.now 0 = sym (c.loop-i.invariant.0 ∙ free_slot_more c.args.slots.now c.loop-i.i _ (omega arith) (sym c.if-not-is_taken.ensures)) in
-    record { seats = free_slot_some c.args.slots.now c.loop-i.i e; inside = c.loop-i-test.true }
-
-pub loop-i-preserved : goal.loop-i-preserved
-loop-i-preserved c = (c.loop-i.invariant.0 ∙ free_slot_more c.args.slots.now c.loop-i.i _ (omega arith) (sym c.if-not-is_taken.ensures), c.told-slots)
-
-pub returns : goal.returns
-returns c =
-    let e : None ≡ free_slot c.args.slots.now 0 = sym (c.loop-i.invariant.0 ∙ at_drop_all (λ xs. free_slot xs c.loop-i.i) c.args.slots.now c.loop-i.i (omega arith)) in
-    record { seats = free_slot_none c.args.slots.now e; inside = tt }
+pub returns-clause-seats : goal.returns-clause-seats
+returns-clause-seats c =
+    seats c.args.slots.now c.position.result
+    (position_from_yields_List is_free c.position.new.self _ _ c.position.ensures.ran (YieldsList-from_slice c.args.slots.now cc) (λ x b q k. search (rules, tests)))

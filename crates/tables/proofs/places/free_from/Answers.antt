@@ -1,17 +1,13 @@
-use Rattle.std.proofs.Common.{◌≡◌, ℕ, ◌+◌, ◌<◌, Bool, cond, List, length, get_or, drop, Some, sym, ap, ◌∙◌, arith}
-use Rattle.std.proofs.lemmas.List.{at_drop_more, at_drop_all}
-use Rattle.rules.specs.declared.Entry.{Entry}
-use Rattle.rules.specs.Tables.{free, free_from}
+use Rattle.std.proofs.Common.{rules, tests, ◌-◌, not, is_some, length, ◌∙◌, refl, sym}
+use Rattle.std.proofs.lemmas.Iterator.{YieldsList-from_range}
+use Rattle.std.proofs.lemmas.Iterator.Search.{find_from_yields_List}
+use Rattle.std.proofs.lemmas.Iterator.Adapters.{option_map_id}
+use Rattle.rules.specs.Tables.{entry}
+use Rattle.tables.proofs.Picking.{first_free}
 use Rattle.tables.proofs.places.free_from.Goals as goal
 
-step : {A : Type 0} (xs : List (Entry A)) (i : ℕ) (x : Entry A) (b : Bool) → i < length xs → x ≡ get_or xs i x → free x ≡ b → free_from i (drop i xs) ≡ cond b (Some i) (free_from (i + 1) (drop (i + 1) xs))
-step xs i x b h e f = at_drop_more (free_from i) xs i x h ∙ ap (λ t. cond t (Some i) (free_from (i + 1) (drop (i + 1) xs))) (ap free (sym e) ∙ f)
-
-pub returns-then-is_free : goal.returns-then-is_free
-returns-then-is_free g c = sym (c.loop-i.invariant ∙ step c.args.table.now c.loop-i.i c.index-table-i.result _ c.loop-i-test.true c.index-table-i.is (sym c.if-is_free.ensures))
-
-pub loop-i-preserved : goal.loop-i-preserved
-loop-i-preserved g c = c.loop-i.invariant ∙ step c.args.table.now c.loop-i.i c.index-table-i.result _ c.loop-i-test.true c.index-table-i.is (sym c.if-is_free.ensures)
-
 pub returns : goal.returns
-returns g c = sym (c.loop-i.invariant ∙ at_drop_all (free_from c.loop-i.i) c.args.table.now c.loop-i.i (omega arith))
+returns g c =
+    sym (option_map_id c.find.result)
+    ∙ find_from_yields_List (λ p. not (is_some (entry c.args.table.now p))) c.find.new.self _ c.find.result c.find.ensures.ran (YieldsList-from_range c.args.from (length c.args.table.now) (length c.args.table.now - c.args.from) refl refl) (λ x b q k. search (rules, tests))
+    ∙ first_free c.args.table.now c.args.from (length c.args.table.now - c.args.from) refl

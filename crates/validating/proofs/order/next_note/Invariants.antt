@@ -1,6 +1,6 @@
-use Rattle.std.proofs.Common.{◌≡◌, drop}
-use Rattle.validating.proofs.Nexts.{next_from}
+use Rattle.std.proofs.Common.{◌≡◌}
+use Rattle.validating.proofs.Nexts.{Found}
 use Rattle.validating.proofs.order.next_note.Given as goal
 
-abbrev pub invariant-loop-i : goal.invariant-loop-i
-invariant-loop-i g l = l.first ≡ next_from l.owner l.last l.i (drop l.i l.notes)
+abbrev pub invariant-loop-place : goal.invariant-loop-place
+invariant-loop-place g l = Found l.owner l.last l.notes l.place-iterator.iter.iter.rest.now l.first × (l.place-iterator.iter.count ≡ 0)

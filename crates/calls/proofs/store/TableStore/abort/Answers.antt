@@ -1,7 +1,6 @@
-use Rattle.tables.specs.Places.{pick}
-use Rattle.tables.proofs.Picking.{picks_allowed}
+use Rattle.rules.specs.declared.Call.TheVariants as call
+use Rattle.calls.proofs.Performing.{whichever}
 use Rattle.calls.proofs.store.TableStore.abort.Goals as goal
 
--- the rule takes no free entry, so any choice serves
 pub returns-clause-answers : goal.returns-clause-answers
-returns-clause-answers g c = λ rows. (record { version = pick 0 c.args.versions.now; note = pick 0 c.args.notes.now }, picks_allowed 0 0 _, c.abort.ensures rows)
+returns-clause-answers g c = λ rows. whichever g.I.Key.Key.order _ _ (call.Abort c.args.transaction) _ (λ w. c.abort.ensures rows)
