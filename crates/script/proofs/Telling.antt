@@ -1,5 +1,6 @@
 -- What is printed of lines, one after the other. Assumes nothing.
 use Rattle.std.proofs.Common.{◌≡◌, ℕ, ◌+◌, ◌≤◌, Bool, true, false, cond, List, [], ◌∷◌, ◌++◌, length, is_ok, IsErrAnd, IfOk, Ok, Err, Result, sym, refl, ap, ◌∙◌, arith}
+use Rattle.std.specs.Result.{MatchResult}
 use Rattle.std.proofs.lemmas.List.{append-nil}
 use Rattle.std.proofs.lemmas.Result.{err_from_is_err_and}
 use Rattle.keys.specs.declared.Score.{Score}
@@ -11,7 +12,7 @@ use Rattle.script_text.specs.Texts.{reply_text}
 use Rattle.script.specs.declared.faults.AtCall.{AtCall}
 use Rattle.script.specs.declared.faults.Cause.TheVariants as cause
 use Rattle.script.specs.declared.faults.ScriptFault.{ScriptFault}
-use Rattle.script.specs.Faults.{at_call, of_store, read_at, answered_at, fault_said, goes_on}
+use Rattle.script.specs.Faults.{of_store, read_at, answered_at, fault_said, goes_on}
 use Rattle.script.specs.Running.{ScriptDesk, ScriptCall, Asked, carried, desk_after, line_said, result_of, told, LineTold}
 
 abbrev told_with : ℕ → ScriptDesk → List ℕ → List (List ℕ) → Bool → List ℕ
@@ -55,21 +56,22 @@ module _ (line : ℕ) (d d' : ScriptDesk) (q : Asked) (a : ScriptCall) (r : Resu
             sym (ap (λ c. (carried d c).0) same ∙ ap (λ (z : ScriptDesk × Result (Answer Score) Refusal). z.0) does),
           )
 
-  -- the store refuses
-  pub refused : (at : AtCall) → Err at ≡ at_call line a r → (Err (of_store at) ≡ result_of line d q) × (d' ≡ desk_after d q)
-  refused at e = (go r e ∙ sym comes.0, comes.1)
+  -- the store refuses: `put` is what the closure of `map_err` says of the refusal, that it stands beside the line and the call
+  pub refused : (put : Refusal → Type 0) (at : AtCall) → MatchResult r (λ x. ◌≡◌ {A = Result (Answer Score) AtCall} (Err at) (Ok x)) put
+      → ((e : Refusal) → put e → at ≡ record { line = line; call = a; refusal = e }) → (Err (of_store at) ≡ result_of line d q) × (d' ≡ desk_after d q)
+  refused put at e puts = (go r e ∙ sym comes.0, comes.1)
     where
-      go : (y : Result (Answer Score) Refusal) → Err at ≡ at_call line a y → Err (of_store at) ≡ answered_at line a y
+      go : (y : Result (Answer Score) Refusal) → MatchResult y (λ x. ◌≡◌ {A = Result (Answer Score) AtCall} (Err at) (Ok x)) put → Err (of_store at) ≡ answered_at line a y
       go (Ok x) h = let z : ◌≡◌ {A = ℕ} 0 1 = cc in absurd (omega arith)
-      go (Err x) h = let same : at ≡ record { line = line; call = a; refusal = x } = cc in ap (λ z. Err (of_store z)) same
+      go (Err x) h = ap (λ z. Err (of_store z)) (puts x h)
 
   -- the store answers
-  pub answered : (x : Answer Score) → Ok x ≡ at_call line a r → (Ok (a, x) ≡ result_of line d q) × (d' ≡ desk_after d q)
+  pub answered : (x : Answer Score) → MatchResult r (λ y. ◌≡◌ {A = Result (Answer Score) AtCall} (Ok x) (Ok y)) (λ e. ⊥) → (Ok (a, x) ≡ result_of line d q) × (d' ≡ desk_after d q)
   answered x e = (go r e ∙ sym comes.0, comes.1)
     where
-      go : (y : Result (Answer Score) Refusal) → Ok x ≡ at_call line a y → Ok (a, x) ≡ answered_at line a y
+      go : (y : Result (Answer Score) Refusal) → MatchResult y (λ y. ◌≡◌ {A = Result (Answer Score) AtCall} (Ok x) (Ok y)) (λ e. ⊥) → Ok (a, x) ≡ answered_at line a y
       go (Ok y) h = let same : x ≡ y = cc in ap (λ z. Ok (a, z)) same
-      go (Err y) h = let z : ◌≡◌ {A = ℕ} 0 1 = cc in absurd (omega arith)
+      go (Err y) h = absurd h
 
 -- ---- what is written of a line
 

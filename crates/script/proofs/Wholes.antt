@@ -1,7 +1,7 @@
 -- Lines one after the other, and the whole script. Assumes nothing.
-use Rattle.std.proofs.Common.{◌≡◌, ℕ, ◌+◌, ◌<◌, ◌≤◌, Bool, true, false, cond, eqb, ltb, List, [], ◌∷◌, ◌++◌, length, is_err, IfOk, Ok, Err, codes, Result, sym, refl, ap, ◌∙◌, subst, append_assoc, arith}
+use Rattle.std.proofs.Common.{◌≡◌, ℕ, ◌+◌, ◌<◌, ◌≤◌, Bool, true, false, cond, ltb, List, [], ◌∷◌, ◌++◌, length, IfOk, codes, Result, sym, refl, ap, ◌∙◌, subst, append_assoc, arith}
 use Rattle.std.proofs.lemmas.List.{append-nil}
-use Rattle.std.proofs.lemmas.Bool.{eqb-true, lt-ltb}
+use Rattle.std.proofs.lemmas.Bool.{lt-ltb}
 use Rattle.keys.specs.declared.CardNumber.{CardNumber}
 use Rattle.keys.specs.Kinds.{card_order}
 use Rattle.rules.specs.declared.Call.TheVariants as call
@@ -37,10 +37,6 @@ pub opened_with : (xs : List (CardNumber × ℕ)) (n : ℕ) (d d' : ScriptDesk) 
 opened_with xs n d d' none room new opens =
     opens ∙ ap (λ (z : ScriptDesk). (carried z (call.Open 0)).0) (new ∙ ap (λ (z : List (CardNumber × ℕ)). fresh_with (meaning card_order z n)) none ∙ ap (λ m. fresh_with (meaning card_order [] m)) room)
 
-pub not_made : {X Y : Type 0} (P : X → Type 0) (r : Result X Y) → is_err r ≡ true → IfOk r P
-not_made P (Err e) h = tt
-not_made P (Ok x) h = let z : ◌≡◌ {A = ℕ} 0 1 = cc in absurd (omega arith)
-
 pub rest_within : (script rest : List ℕ) → (0 < length script → length rest < length script) → (script ≡ [] → rest ≡ []) → length script ≤ 65536 → length rest ≤ 65536
 rest_within [] rest some none h = let e = ap length (none refl) in omega (arith, e)
 rest_within (b ∷ bs) rest some none h = let s = some (omega arith) in omega (arith, s)
@@ -65,13 +61,6 @@ in_lines script first rest some none none' h = text_by_length script ∙ ap (by_
     go : (script : List ℕ) → (0 < length script → lines script ≡ first ∷ lines rest) → (script ≡ [] → first ≡ []) → (script ≡ [] → rest ≡ []) → parted (lines script) ≡ heading_text ++ script_said (kind_of first) (lines rest)
     go [] some none none' = ap (λ (z : List ℕ × List ℕ). heading_text ++ script_said (kind_of z.0) (lines z.1)) (λ i. (sym (none refl) i, sym (none' refl) i))
     go (b ∷ bs) some none none' = ap parted (some (omega arith))
-
-pub some_left : (xs : List ℕ) → false ≡ eqb (length xs) 0 → 0 < length xs
-some_left [] h = let z : ◌≡◌ {A = ℕ} 0 1 = cc in absurd (omega arith)
-some_left (x ∷ xs) h = omega arith
-
-pub none_left : (xs : List ℕ) → true ≡ eqb (length xs) 0 → length xs ≤ 0
-none_left xs h = let e = eqb-true (length xs) 0 (sym h) in omega (arith, e)
 
 -- the lines told from a desk that is the opened one
 pub told_from : {E : Type 0} (r : Result (Unit {0}) E) (out out' : List ℕ) (ls : List (List ℕ)) (d : ScriptDesk) → d ≡ opened → IfOk r (λ x. out' ≡ out ++ told 2 d ls) → IfOk r (λ x. out' ≡ out ++ told 2 opened ls)

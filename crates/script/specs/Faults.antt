@@ -30,16 +30,6 @@ kind_word (Number field) = codes "number"
 abbrev pub line_fault_text : ℕ → LineFault → List ℕ
 line_fault_text line f = fault_text line (field_of f) (kind_word f)
 
--- a result, with the line beside its fault
-abbrev pub at_line : {T : Type 0} → ℕ → Result T LineFault → Result T AtLine
-at_line line (Ok x) = Ok x
-at_line line (Err e) = Err (record { line = line; fault = e })
-
--- a result, with the line and the call beside its refusal
-abbrev pub at_call : {T : Type 0} → ℕ → Call CardNumber Score → Result T Refusal → Result T AtCall
-at_call line a (Ok x) = Ok x
-at_call line a (Err e) = Err (record { line = line; call = a; refusal = e })
-
 abbrev pub of_text : AtLine → ScriptFault
 of_text at = record { line = at.line; cause = cause.Text at.fault }
 

@@ -8,7 +8,7 @@ ghost use Rattle.keys.specs.Kinds.{card_order};
 ghost use Rattle.script.specs.Faults.{read_at};
 ghost use Rattle.script.specs.Running.{desk_of, fresh_with, carried, result_of, desk_after, LineTold, told};
 
-use crate::faults::{ScriptFault, at_call, at_line, say_script_fault};
+use crate::faults::{AtCall, AtLine, ScriptFault, say_script_fault};
 use calls::TableStore;
 use index::Index;
 use keys::{CardNumber, Score};
@@ -19,6 +19,7 @@ use seeing::Version;
 use std::alloc::AllocError;
 
 /// A store with 256 entries in each table, and 64 rows.
+// Not the programs' desk: that one has Vecs of any length and no contract.
 #[derive(Drop)]
 pub(crate) struct Tables<I> {
     store: TableStore,
@@ -32,8 +33,8 @@ pub(crate) struct Tables<I> {
 fn read_call(line: usize, bytes: &[u8]) -> Result<Call<CardNumber, Score>, ScriptFault>
     ensures { result ≡ read_at line (asked bytes.now) }
 {
-    let step = at_line(line, read_step(bytes))?;
-    let call = at_line(line, call_of(&step))?;
+    let step = read_step(bytes).map_err(|fault| AtLine { line, fault })?;
+    let call = call_of(&step).map_err(|fault| AtLine { line, fault })?;
     Ok(call)
 }
 
@@ -42,22 +43,21 @@ impl<I: Index<Key = CardNumber>> Tables<I> {
     pub(crate) fn new(index: I) -> Tables<I>
         ensures { desk_of I.pairs I.limit result ≡ fresh_with (meaning card_order (I.pairs index) (I.limit index)) }
     {
-        let no_version: Entry<Version<CardNumber, Score>> = Entry::free();
-        let no_note: Entry<Note<CardNumber>> = Entry::free();
         let blank = Row {
             key: CardNumber(0),
             value: Score(0),
         };
         Tables {
             store: TableStore::new(),
-            versions: [no_version; 256],
-            notes: [no_note; 256],
+            versions: [Entry::free(); 256],
+            notes: [Entry::free(); 256],
             rows: [blank; 64],
             index,
         }
     }
 
     // Carries out the call.
+    #[tactic(auto, unfolding(crate::specs::Running::carried))]
     fn ask(&mut self, call: Call<CardNumber, Score>) -> Result<Answer<Score>, Refusal>
         ensures { carried (desk_of I.pairs I.limit self.old) call ≡ (desk_of I.pairs I.limit self.new, result) }
     {
@@ -87,7 +87,11 @@ impl<I: Index<Key = CardNumber>> Tables<I> {
         ensures leaves { desk_of I.pairs I.limit self.new ≡ desk_after (desk_of I.pairs I.limit self.old) (asked bytes.now) }
     {
         let call = read_call(line, bytes)?;
-        let answer = at_call(line, call, self.ask(call))?;
+        let answer = self.ask(call).map_err(|refusal| AtCall {
+            line,
+            call,
+            refusal,
+        })?;
         Ok((call, answer))
     }
 
@@ -105,6 +109,7 @@ impl<I: Index<Key = CardNumber>> Tables<I> {
     }
 
     /// Carries out the lines of the text, of which the first has that number, up to a faulty one, and writes what comes of each.
+    // A line's number goes along with the text that is left: an iterator of lines would be one more type, for this loop alone.
     pub(crate) fn tell(
         &mut self,
         first: usize,

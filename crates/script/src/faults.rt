@@ -1,6 +1,6 @@
 // The faults of a script: a fault of a line's text, or a refusal of the store, with the line where it came up.
 ghost use Rattle.std.specs.Prelude.{◌≡◌, ◌++◌, IfOk, string_bytes, OnOk};
-ghost use Rattle.script.specs.Faults.{at_line, at_call, of_text, of_store, field_of, kind_word, line_fault_text, fault_said, goes_on};
+ghost use Rattle.script.specs.Faults.{of_text, of_store, line_fault_text, fault_said, goes_on};
 
 use keys::{CardNumber, Score};
 use rules::{Call, Refusal, Row};
@@ -22,6 +22,7 @@ pub(crate) struct ScriptFault {
 }
 
 /// A fault of a line beside its number.
+// A fault is put beside what it gains and turned by `From` at the `?`, as a rule of the project.
 #[derive(Clone, Copy)]
 pub(crate) struct AtLine {
     pub line: usize,
@@ -58,55 +59,6 @@ impl From<AtCall> for ScriptFault {
     }
 }
 
-// The result, with the line beside its fault.
-pub(crate) fn at_line<T>(line: usize, res: Result<T, LineFault>) -> Result<T, AtLine>
-    ensures { result ≡ at_line line res }
-{
-    match res {
-        Ok(x) => Ok(x),
-        Err(fault) => Err(AtLine { line, fault }),
-    }
-}
-
-// The result, with the line and the call beside its refusal.
-pub(crate) fn at_call<T>(
-    line: usize,
-    call: Call<CardNumber, Score>,
-    res: Result<T, Refusal>,
-) -> Result<T, AtCall>
-    ensures { result ≡ at_call line call res }
-{
-    match res {
-        Ok(x) => Ok(x),
-        Err(refusal) => Err(AtCall {
-            line,
-            call,
-            refusal,
-        }),
-    }
-}
-
-// The field at fault; 0 where it is the number of fields.
-fn field_of(fault: LineFault) -> usize
-    ensures { result ≡ field_of fault }
-{
-    match fault {
-        LineFault::Word(field) => field,
-        LineFault::Count => 0,
-        LineFault::Number(field) => field,
-    }
-}
-
-fn kind_word(fault: LineFault) -> &'static str
-    ensures { result.now ≡ kind_word fault }
-{
-    match fault {
-        LineFault::Word(_) => "word",
-        LineFault::Count => "count",
-        LineFault::Number(_) => "number",
-    }
-}
-
 // What is wrong with a line.
 pub(crate) fn say_line_fault(
     out: &mut String,
@@ -115,7 +67,11 @@ pub(crate) fn say_line_fault(
 ) -> Result<(), AllocError>
     ensures { OnOk result (string_bytes out.new ≡ string_bytes out.old ++ line_fault_text line fault) }
 {
-    say_fault(out, line, field_of(fault), kind_word(fault))
+    match fault {
+        LineFault::Word(field) => say_fault(out, line, field, "word"),
+        LineFault::Count => say_fault(out, line, 0, "count"),
+        LineFault::Number(field) => say_fault(out, line, field, "number"),
+    }
 }
 
 // A fault, and whether the script goes on after it.

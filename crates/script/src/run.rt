@@ -5,10 +5,10 @@ ghost use Rattle.script.specs.Running.{opened, told, script_said, script_text, S
 
 use crate::desk::Tables;
 use crate::faults::say_line_fault;
-use chains::CardChains;
+use chains::Chains;
 use index::Index;
 use keys::CardNumber;
-use ordered::CardsInOrder;
+use ordered::InOrder;
 use script_lines::{IndexKind, LineFault, cut_line, index_kind};
 use script_text::{say_fault, say_heading};
 use std::alloc::{AllocError, Global};
@@ -43,13 +43,14 @@ fn run_lines(
     ensures { OnOk result (string_bytes out.new ≡ string_bytes out.old ++ script_said kind (lines text.now)) }
 {
     match kind {
-        Ok(IndexKind::Hash) => run_with(CardChains::new(heap, CAPACITY)?, text, out),
-        Ok(IndexKind::Ordered) => run_with(CardsInOrder::new(heap, CAPACITY)?, text, out),
+        Ok(IndexKind::Hash) => run_with(Chains::new(heap, CAPACITY)?, text, out),
+        Ok(IndexKind::Ordered) => run_with(InOrder::new(heap, CAPACITY)?, text, out),
         Err(fault) => say_line_fault(out, 1, fault),
     }
 }
 
 /// What a script prints, whichever index its first line picks; it makes a run that keeps the law.
+#[tactic(auto, using(crate::proofs::Lawfully::script_law, crate::proofs::Wholes::rest_within, crate::proofs::Wholes::size_alone))]
 pub fn run_script(heap: Global, script: &[u8]) -> Result<String, AllocError>
     ensures text { IfOk result (λ t. string_bytes t ≡ script_text script.now) }
     ensures law { ScriptLaw script.now }

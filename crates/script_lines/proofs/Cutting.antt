@@ -74,17 +74,13 @@ lines_cut (x ∷ xs) h = go (eqb x 10) (or_none xs (lines_cut xs))
     go true e = refl
     go false e = e
 
-pub beyond_shorter : (xs : List ℕ) → 0 < length xs → length (beyond xs) < length xs
-beyond_shorter [] h = absurd (omega arith)
-beyond_shorter (x ∷ xs) h = go (eqb x 10) (or_none xs (beyond_shorter xs))
+pub after_shorter : (stop : ℕ) (xs rest : List ℕ) → after stop xs ≡ Some rest → length rest < length xs
+after_shorter stop [] rest e = let z : ◌≡◌ {A = ℕ} 0 1 = cc in absurd (omega arith)
+after_shorter stop (x ∷ xs) rest e = go (eqb x stop) (after_shorter stop xs rest) e
   where
-    or_none : (ys : List ℕ) → (0 < length ys → length (beyond ys) < length ys) → length (beyond ys) ≤ length ys
-    or_none [] e = omega arith
-    or_none (y ∷ ys) e = omega (arith, e (omega arith))
-
-    go : (b : Bool) → length (beyond xs) ≤ length xs → length (unwrap_or (cond b (Some xs) (after 10 xs)) []) < suc (length xs)
-    go true e = omega arith
-    go false e = omega arith
+    go : (b : Bool) → (after stop xs ≡ Some rest → length rest < length xs) → cond b (Some xs) (after stop xs) ≡ Some rest → length rest < suc (length xs)
+    go true h e = let z : xs ≡ rest = cc in omega (arith, ap length z)
+    go false h e = omega (arith, h e)
 
 pub fields_cut : (xs : List ℕ) → fields xs ≡ before 44 xs ∷ fields_of (after 44 xs)
 fields_cut [] = refl

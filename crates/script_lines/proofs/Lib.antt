@@ -1,4 +1,4 @@
 pub mod Cutting
 pub mod Reading
-pub mod Counting
 pub mod Asking
+pub mod Counting

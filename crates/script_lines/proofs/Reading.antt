@@ -1,7 +1,6 @@
 -- Steps of a reading. Assumes nothing.
-use Rattle.std.proofs.Common.{◌≡◌, ℕ, ◌+◌, ◌-◌, ◌*◌, ◌<◌, ◌≤◌, Bool, true, false, cond, ◌&&◌, eqb, leb, List, [], ◌∷◌, length, get_or, pos, neg_ℤ, Some, None, Option, sym, refl, ap, ◌∙◌, arith, leb-true}
-use Rattle.std.specs.Option.{option_map}
-use Rattle.script_lines.specs.Numbers.{digit, all_digits, value_after, number_up_to, score_of}
+use Rattle.std.proofs.Common.{◌≡◌, ℕ, ◌+◌, ◌-◌, ◌*◌, ◌<◌, ◌≤◌, Bool, true, false, cond, ◌&&◌, leb, List, [], ◌∷◌, length, get_or, Some, None, Option, sym, refl, ap, ◌∙◌, arith, leb-true}
+use Rattle.script_lines.specs.Numbers.{digit, all_digits, value_after, number_up_to}
 use Rattle.script_lines.specs.Growing.{grown, all_grown}
 use Rattle.script_lines.proofs.Cutting.{tail, tail_is}
 
@@ -62,7 +61,3 @@ grown_within max n b m e = go (digit b) (leb k max) refl e
     go false t l e = let z : ◌≡◌ {A = ℕ} 0 1 = cc in absurd (omega arith)
     go true false l e = let z : ◌≡◌ {A = ℕ} 0 1 = cc in absurd (omega arith)
     go true true l e = let z : k ≡ m = cc in omega (arith, leb-true _ _ l)
-
-pub minus_first : (xs : List ℕ) → 0 < length xs → eqb (get_or xs 0 0) 45 ≡ true → score_of xs ≡ option_map (λ n. neg_ℤ (pos n)) (number_up_to 2147483648 (tail xs))
-minus_first [] h e = absurd (omega arith)
-minus_first (x ∷ xs) h e = ap (λ b. cond b (option_map (λ n. neg_ℤ (pos n)) (number_up_to 2147483648 xs)) (option_map pos (number_up_to 2147483647 (x ∷ xs)))) e ∙ ap (λ l. option_map (λ n. neg_ℤ (pos n)) (number_up_to 2147483648 l)) (sym (tail_is x xs))

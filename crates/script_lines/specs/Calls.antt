@@ -1,8 +1,9 @@
 -- From a step to the call of the store. Assumes nothing.
-use Rattle.std.specs.Prelude.{ℕ, ◌-◌, ◌^◌, List, Ok, Err, Result}
+use Rattle.std.specs.Prelude.{◌≡◌, ℕ, ◌-◌, ◌^◌, List, Ok, Err, Result}
 use Rattle.std.specs.Option.{option_map, ok_or}
 use Rattle.keys.specs.declared.CardNumber.{CardNumber}
 use Rattle.keys.specs.declared.Score.{Score}
+use Rattle.rules.specs.declared.BookCall.{BookCall}
 use Rattle.rules.specs.declared.BookCall.TheVariants as book
 use Rattle.rules.specs.declared.Call.{Call}
 use Rattle.rules.specs.declared.Call.TheVariants as call
@@ -34,20 +35,36 @@ score_at field text = ok_or (option_map (λ z. record { 0 = z }) (score_of text)
 abbrev pub begin_call : List ℕ → Asked
 begin_call l = ok_or (option_map (λ v. call.Begin v) (named l levels)) (Word 2)
 
+-- the fields of a call on one card, and of one that brings a score too; or the first fault
+unfoldable pub key_fields : List ℕ → List ℕ → Result (ℕ × CardNumber) LineFault
+key_fields t k = then (transaction_of t) (λ n. then (card_at 3 k) (λ c. Ok (n, c)))
+
+unfoldable pub score_fields : List ℕ → List ℕ → List ℕ → Result (ℕ × CardNumber × Score) LineFault
+score_fields t k s = then (transaction_of t) (λ n. then (card_at 3 k) (λ c. then (score_at 4 s) (λ v. Ok (n, c, v))))
+
+-- the call of those fields, of which post says what is asked of the book; or the fault
+abbrev pub KeyAsked : (CardNumber → BookCall CardNumber Score → Type 0) → Result (ℕ × CardNumber) LineFault → Asked → Type 0
+KeyAsked post (Err e) r = r ≡ Err e
+KeyAsked post (Ok p) r = (b : BookCall CardNumber Score) × post p.1 b × (r ≡ Ok (call.Book p.0 b))
+
+abbrev pub ScoreAsked : (CardNumber → Score → BookCall CardNumber Score → Type 0) → Result (ℕ × CardNumber × Score) LineFault → Asked → Type 0
+ScoreAsked post (Err e) r = r ≡ Err e
+ScoreAsked post (Ok p) r = (b : BookCall CardNumber Score) × post p.1 p.2 b × (r ≡ Ok (call.Book p.0 b))
+
 abbrev pub read_call : List ℕ → List ℕ → Asked
-read_call t k = then (transaction_of t) (λ n. then (card_at 3 k) (λ c. Ok (call.Book n (book.Read c))))
+read_call t k = then (key_fields t k) (λ p. Ok (call.Book p.0 (book.Read p.1)))
+
+abbrev pub delete_call : List ℕ → List ℕ → Asked
+delete_call t k = then (key_fields t k) (λ p. Ok (call.Book p.0 (book.Delete p.1)))
 
 abbrev pub scan_call : List ℕ → List ℕ → List ℕ → Asked
 scan_call t l u = then (transaction_of t) (λ n. then (card_at 3 l) (λ c. then (card_at 4 u) (λ d. Ok (call.Book n (book.Scan c d)))))
 
 abbrev pub insert_call : List ℕ → List ℕ → List ℕ → Asked
-insert_call t k s = then (transaction_of t) (λ n. then (card_at 3 k) (λ c. then (score_at 4 s) (λ v. Ok (call.Book n (book.Insert c v)))))
+insert_call t k s = then (score_fields t k s) (λ p. Ok (call.Book p.0 (book.Insert p.1 p.2)))
 
 abbrev pub update_call : List ℕ → List ℕ → List ℕ → Asked
-update_call t k s = then (transaction_of t) (λ n. then (card_at 3 k) (λ c. then (score_at 4 s) (λ v. Ok (call.Book n (book.Update c v)))))
-
-abbrev pub delete_call : List ℕ → List ℕ → Asked
-delete_call t k = then (transaction_of t) (λ n. then (card_at 3 k) (λ c. Ok (call.Book n (book.Delete c))))
+update_call t k s = then (score_fields t k s) (λ p. Ok (call.Book p.0 (book.Update p.1 p.2)))
 
 -- the call of a step, or the first field that is no number in range
 abbrev pub call_of : Plain → Asked

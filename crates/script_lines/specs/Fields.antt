@@ -1,39 +1,30 @@
--- The fields that follow a word, as the code holds them. Assumes nothing.
-use Rattle.std.specs.Prelude.{ℕ, List, [], ◌∷◌, Some, None, Option}
-use Rattle.seeing.specs.declared.Level.{Level}
+-- The fields that follow a word, if there are as many as asked for. Assumes nothing.
+use Rattle.std.specs.Prelude.{ℕ, List, Ok, Err, Result}
+use Rattle.std.specs.Borrow.{Bor}
 use Rattle.script_lines.specs.declared.LineFault.{LineFault}
-use Rattle.script_lines.specs.declared.LineFault.TheVariants.{Word, Count}
-use Rattle.script_lines.specs.declared.steps.Fields.{Fields}
-use Rattle.script_lines.specs.declared.steps.Fields.TheVariants as held
-use Rattle.script_lines.specs.declared.words.CallWord.{CallWord}
-use Rattle.script_lines.specs.declared.words.CallWord.TheVariants as word
-use Rattle.script_lines.specs.Lines.{fields}
-use Rattle.script_lines.specs.Words.{named, levels}
+use Rattle.script_lines.specs.Steps.{with_none, with_one, with_two, with_three}
 
--- the fields as a list
-abbrev pub listed : Fields → List (List ℕ)
-listed held.None = []
-listed (held.One a) = a.now ∷ []
-listed (held.Two a b) = a.now ∷ b.now ∷ []
-listed (held.Three a b c) = a.now ∷ b.now ∷ c.now ∷ []
-listed (held.More a b c rest) = a.now ∷ b.now ∷ c.now ∷ fields rest.now
+abbrev pub none : List (List ℕ) → Result (Unit {0}) LineFault
+none fs = with_none tt fs
 
-abbrev pub level_or_count : Option Level → LineFault
-level_or_count None = Word 2
-level_or_count (Some l) = Count
+abbrev pub one : List (List ℕ) → Result (List ℕ) LineFault
+one fs = with_one (λ a. a) fs
 
--- what is wrong with a line of too many fields, the first of them a
-abbrev pub miscount : CallWord → List ℕ → LineFault
-miscount word.Begin a = level_or_count (named a levels)
-miscount word.Read a = Count
-miscount word.Scan a = Count
-miscount word.Insert a = Count
-miscount word.Update a = Count
-miscount word.Delete a = Count
-miscount word.Prepare a = Count
-miscount word.Validate a = Count
-miscount word.Commit a = Count
-miscount word.Abort a = Count
-miscount word.Finish a = Count
-miscount word.Sweep a = Count
-miscount word.Tally a = Count
+abbrev pub two : List (List ℕ) → Result (List ℕ × List ℕ) LineFault
+two fs = with_two (λ a b. (a, b)) fs
+
+abbrev pub three : List (List ℕ) → Result (List ℕ × List ℕ × List ℕ) LineFault
+three fs = with_three (λ a b c. (a, b, c)) fs
+
+-- fields that were read, by their bytes
+abbrev pub one_now : Result (Bor (List ℕ)) LineFault → Result (List ℕ) LineFault
+one_now (Ok a) = Ok a.now
+one_now (Err e) = Err e
+
+abbrev pub two_now : Result (Bor (List ℕ) × Bor (List ℕ)) LineFault → Result (List ℕ × List ℕ) LineFault
+two_now (Ok p) = Ok (p.0.now, p.1.now)
+two_now (Err e) = Err e
+
+abbrev pub three_now : Result (Bor (List ℕ) × Bor (List ℕ) × Bor (List ℕ)) LineFault → Result (List ℕ × List ℕ × List ℕ) LineFault
+three_now (Ok p) = Ok (p.0.now, p.1.now, p.2.now)
+three_now (Err e) = Err e

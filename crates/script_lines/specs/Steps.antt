@@ -45,28 +45,22 @@ abbrev pub plainly : Result Step LineFault → Result Plain LineFault
 plainly (Ok s) = Ok (plain s)
 plainly (Err e) = Err e
 
--- a step of no, one, two or three fields, from the fields that follow the word
-abbrev pub with_none : Plain → List (List ℕ) → Result Plain LineFault
+-- what is made of no, one, two or three fields, from the fields that follow the word
+abbrev pub with_none : {A : Type 0} → A → List (List ℕ) → Result A LineFault
 with_none p [] = Ok p
 with_none p (a ∷ fs) = Err Count
 
-abbrev pub with_one : (List ℕ → Plain) → List (List ℕ) → Result Plain LineFault
+abbrev pub with_one : {A : Type 0} → (List ℕ → A) → List (List ℕ) → Result A LineFault
 with_one p [] = Err Count
-with_one p (a ∷ []) = Ok (p a)
-with_one p (a ∷ b ∷ fs) = Err Count
+with_one p (a ∷ fs) = with_none (p a) fs
 
-abbrev pub with_two : (List ℕ → List ℕ → Plain) → List (List ℕ) → Result Plain LineFault
+abbrev pub with_two : {A : Type 0} → (List ℕ → List ℕ → A) → List (List ℕ) → Result A LineFault
 with_two p [] = Err Count
-with_two p (a ∷ []) = Err Count
-with_two p (a ∷ b ∷ []) = Ok (p a b)
-with_two p (a ∷ b ∷ c ∷ fs) = Err Count
+with_two p (a ∷ fs) = with_one (p a) fs
 
-abbrev pub with_three : (List ℕ → List ℕ → List ℕ → Plain) → List (List ℕ) → Result Plain LineFault
+abbrev pub with_three : {A : Type 0} → (List ℕ → List ℕ → List ℕ → A) → List (List ℕ) → Result A LineFault
 with_three p [] = Err Count
-with_three p (a ∷ []) = Err Count
-with_three p (a ∷ b ∷ []) = Err Count
-with_three p (a ∷ b ∷ c ∷ []) = Ok (p a b c)
-with_three p (a ∷ b ∷ c ∷ d ∷ fs) = Err Count
+with_three p (a ∷ fs) = with_two (p a) fs
 
 -- r, unless the second field of the line is no level
 abbrev pub if_level : Option Level → Result Plain LineFault → Result Plain LineFault

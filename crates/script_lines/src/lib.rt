@@ -2,6 +2,7 @@
 #![tactic(auto)]
 
 mod calls;
+mod fields;
 mod lines;
 mod numbers;
 mod steps;
@@ -14,7 +15,7 @@ pub use words::index_kind;
 
 /// What is wrong with a line: the field with an unknown word, the number of fields, or the field that is no number
 /// in range. Fields are counted from 1, the word's own.
-#[derive(Clone, Copy)]
+#[derive(Clone, Copy, Debug, PartialEq, Eq)]
 pub enum LineFault {
     Word(usize),
     Count,
@@ -22,14 +23,14 @@ pub enum LineFault {
 }
 
 /// The index that a script's first line picks.
-#[derive(Clone, Copy)]
+#[derive(Clone, Copy, Debug, PartialEq, Eq)]
 pub enum IndexKind {
     Hash,
     Ordered,
 }
 
 /// A line that was read: its fields are parts of the script, and its numbers are worked out later.
-#[derive(Clone, Copy)]
+#[derive(Clone, Copy, Debug, PartialEq, Eq)]
 pub enum Step<'a> {
     Begin {
         level: &'a [u8],

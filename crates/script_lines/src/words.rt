@@ -1,9 +1,12 @@
 // The words of a script.
 ghost use Rattle.std.specs.Prelude.{◌≡◌};
+ghost use Rattle.std.specs.List.{find};
+ghost use Rattle.std.specs.Option.{option_map};
 ghost use Rattle.std.specs.Str.{bytes_eq};
-ghost use Rattle.script_lines.specs.Words.{named, words, middle_words, last_words, levels, kinds};
+ghost use Rattle.script_lines.specs.Words.{named, words, levels};
 ghost use Rattle.script_lines.specs.Kinds.{kind_of};
 
+use crate::fields::no_field;
 use crate::lines::cut_field;
 use crate::{IndexKind, LineFault};
 use seeing::Level;
@@ -26,94 +29,53 @@ pub(crate) enum CallWord {
     Tally,
 }
 
-fn is_text(word: &[u8], text: &[u8]) -> bool
-    ensures { result ≡ bytes_eq word.now text.now }
-{
-    word == text
-}
+// The words of the calls, of the levels and of the indexes.
+const WORDS: [(&[u8], CallWord); 13] = [
+    (b"begin", CallWord::Begin),
+    (b"read", CallWord::Read),
+    (b"scan", CallWord::Scan),
+    (b"insert", CallWord::Insert),
+    (b"update", CallWord::Update),
+    (b"delete", CallWord::Delete),
+    (b"prepare", CallWord::Prepare),
+    (b"validate", CallWord::Validate),
+    (b"commit", CallWord::Commit),
+    (b"abort", CallWord::Abort),
+    (b"finish", CallWord::Finish),
+    (b"sweep", CallWord::Sweep),
+    (b"tally", CallWord::Tally),
+];
 
-// The words in three parts, since a long chain of tests is slow to prove.
-fn last_word(word: &[u8]) -> Option<CallWord>
-    ensures { result ≡ named word.now last_words }
-{
-    if is_text(word, b"abort") {
-        return Some(CallWord::Abort);
-    }
-    if is_text(word, b"finish") {
-        return Some(CallWord::Finish);
-    }
-    if is_text(word, b"sweep") {
-        return Some(CallWord::Sweep);
-    }
-    if is_text(word, b"tally") {
-        return Some(CallWord::Tally);
-    }
-    None
-}
+const LEVELS: [(&[u8], Level); 2] = [(b"ser", Level::Serializable), (b"snap", Level::Snapshot)];
 
-fn middle_word(word: &[u8]) -> Option<CallWord>
-    ensures { result ≡ named word.now middle_words }
+const KINDS: [(&[u8], IndexKind); 2] = [
+    (b"hash", IndexKind::Hash),
+    (b"ordered", IndexKind::Ordered),
+];
+
+// What the table has for the word.
+fn named<T: Copy>(word: &[u8], table: &[(&[u8], T)]) -> Option<T>
+    ensures { result ≡ option_map (λ p. p.1) (find (λ p. bytes_eq word.now p.0.now) table.now) }
 {
-    if is_text(word, b"delete") {
-        return Some(CallWord::Delete);
-    }
-    if is_text(word, b"prepare") {
-        return Some(CallWord::Prepare);
-    }
-    if is_text(word, b"validate") {
-        return Some(CallWord::Validate);
-    }
-    if is_text(word, b"commit") {
-        return Some(CallWord::Commit);
-    }
-    last_word(word)
+    table
+        .iter()
+        .find(|(name, _)| word == *name)
+        .map(|&(_, meant)| meant)
 }
 
 /// The call that a word names.
+// Not a TryFrom: it would need an error type that nobody reads.
 pub(crate) fn word_of(word: &[u8]) -> Option<CallWord>
     ensures { result ≡ named word.now words }
 {
-    if is_text(word, b"begin") {
-        return Some(CallWord::Begin);
-    }
-    if is_text(word, b"read") {
-        return Some(CallWord::Read);
-    }
-    if is_text(word, b"scan") {
-        return Some(CallWord::Scan);
-    }
-    if is_text(word, b"insert") {
-        return Some(CallWord::Insert);
-    }
-    if is_text(word, b"update") {
-        return Some(CallWord::Update);
-    }
-    middle_word(word)
+    named(word, &WORDS)
 }
 
 /// The level that a word names.
 pub(crate) fn level_of(word: &[u8]) -> Option<Level>
     ensures { result ≡ named word.now levels }
 {
-    if is_text(word, b"ser") {
-        return Some(Level::Serializable);
-    }
-    if is_text(word, b"snap") {
-        return Some(Level::Snapshot);
-    }
-    None
-}
-
-fn kind_named(word: &[u8]) -> Option<IndexKind>
-    ensures { result ≡ named word.now kinds }
-{
-    if is_text(word, b"hash") {
-        return Some(IndexKind::Hash);
-    }
-    if is_text(word, b"ordered") {
-        return Some(IndexKind::Ordered);
-    }
-    None
+    named(word, &LEVELS)
 }
 
 /// The index that the first line of a script picks.
@@ -121,11 +83,7 @@ pub fn index_kind(line: &[u8]) -> Result<IndexKind, LineFault>
     ensures { result ≡ kind_of line.now }
 {
     let first = cut_field(line);
-    match kind_named(first.front) {
-        None => Err(LineFault::Word(1)),
-        Some(kind) => match first.rest {
-            None => Ok(kind),
-            Some(_) => Err(LineFault::Count),
-        },
-    }
+    let kind = named(first.front, &KINDS).ok_or(LineFault::Word(1))?;
+    no_field(first.rest)?;
+    Ok(kind)
 }

@@ -1,5 +1,5 @@
 -- The lines that are printed, as bytes. Assumes nothing.
-use Rattle.std.specs.Prelude.{ℕ, List, [], ◌∷◌, ◌++◌, map, Ok, Err, codes, decimal, Result}
+use Rattle.std.specs.Prelude.{ℕ, List, [], ◌∷◌, ◌++◌, map, flat_map, Ok, Err, codes, decimal, Result}
 use Rattle.std.specs.Fmt.{signed_decimal}
 use Rattle.keys.specs.declared.CardNumber.{CardNumber}
 use Rattle.keys.specs.declared.Score.{Score}
@@ -33,12 +33,17 @@ abbrev pub answer_fields : Result (Answer Score) Refusal → List (List ℕ)
 answer_fields (Ok a) = said_fields (said a)
 answer_fields (Err e) = codes "refused" ∷ decimal (number e) ∷ map decimal (carried e)
 
+-- fields with commas between them
+abbrev pub joined : List (List ℕ) → List ℕ
+joined [] = []
+joined (f ∷ []) = f
+joined (f ∷ g ∷ fs) = f ++ 44 ∷ joined (g ∷ fs)
+
 abbrev pub row_text : ℕ → Row CardNumber Score → List ℕ
 row_text line row = line_text line (codes "row" ∷ decimal row.key.0 ∷ signed_decimal row.value.0 ∷ [])
 
 abbrev pub rows_text : ℕ → List (Row CardNumber Score) → List ℕ
-rows_text line [] = []
-rows_text line (row ∷ rows) = row_text line row ++ rows_text line rows
+rows_text line rows = flat_map (row_text line) rows
 
 -- a call with its answer, then its rows
 abbrev pub reply_text : ℕ → Call CardNumber Score → Result (Answer Score) Refusal → List (Row CardNumber Score) → List ℕ
