@@ -2,28 +2,30 @@
 // with the word `time`, also how many there were in a second.
 #![tactic(auto)]
 
-use chains::CardChains;
+use chains::Chains;
+use desks::Room;
 use index::Index;
 use keys::{CardNumber, Score};
-use ordered::CardsInOrder;
+use ordered::InOrder;
 use rules::{Answer, BookCall, Call};
 use seeing::Level;
-use std::time::Instant;
-use std::{env, io};
-use trying::{Desk, Room, Said};
+use std::time::{Duration, Instant};
+use std::{env, fmt, io};
+use trying::{BLANK, Desk, Said};
 
 // How many keys a transaction asks for.
 const TOGETHER: u32 = 16;
 
 // What is asked of each key.
-#[derive(Clone, Copy)]
+#[derive(Clone, Copy, PartialEq, Eq)]
 enum Asked {
     Insert,
     Read,
     Update,
 }
 
-// What is measured: over how many rows, in how many transactions of each kind, and whether the time is printed.
+// What is measured: over how many rows, in how many transactions of each kind, and whether the speed is printed;
+// without it each line is the same in every run.
 #[derive(Clone, Copy)]
 struct Size {
     rows: u32,
@@ -31,29 +33,29 @@ struct Size {
     timed: bool,
 }
 
-fn word_of(asked: Asked) -> &'static str {
-    match asked {
-        Asked::Insert => "insert",
-        Asked::Read => "read",
-        Asked::Update => "update",
+impl fmt::Display for Asked {
+    fn fmt<W: fmt::Write>(&self, f: &mut fmt::Formatter<W>) -> fmt::Result {
+        f.write_str(match self {
+            Asked::Insert => "insert",
+            Asked::Read => "read",
+            Asked::Update => "update",
+        })
     }
 }
 
-fn call_of(asked: Asked, key: u32) -> BookCall<CardNumber, Score> {
-    match asked {
-        Asked::Insert => BookCall::Insert(CardNumber(key), Score(1)),
-        Asked::Read => BookCall::Read(CardNumber(key)),
-        Asked::Update => BookCall::Update(CardNumber(key), Score(2)),
+impl Asked {
+    fn call(self, key: u32) -> BookCall<CardNumber, Score> {
+        match self {
+            Asked::Insert => BookCall::Insert(CardNumber(key), Score(1)),
+            Asked::Read => BookCall::Read(CardNumber(key)),
+            Asked::Update => BookCall::Update(CardNumber(key), Score(2)),
+        }
     }
 }
 
 // The answer is a value, or "done".
 fn is_good(said: Said) -> bool {
-    match said {
-        Ok(Answer::Value(_)) => true,
-        Ok(Answer::Done) => true,
-        _ => false,
-    }
+    matches!(said, Ok(Answer::Value(_) | Answer::Done))
 }
 
 // From prepare to finish; whether the transaction was committed.
@@ -71,8 +73,9 @@ fn play<I: Index<Key = CardNumber> + Drop>(desk: &mut Desk<I>, asked: Asked, fir
         return 0;
     };
     let mut answered = 0u32;
+    // `i` makes a key, and is no index.
     for i in 0..TOGETHER {
-        if is_good(desk.perform(Call::Book(name, call_of(asked, first.wrapping_add(i))))) {
+        if is_good(desk.perform(Call::Book(name, asked.call(first.wrapping_add(i))))) {
             answered = answered.saturating_add(1);
         }
     }
@@ -81,7 +84,7 @@ fn play<I: Index<Key = CardNumber> + Drop>(desk: &mut Desk<I>, asked: Asked, fir
 
 // Before the first row is inserted, and again, the store is opened anew.
 fn open_at<I: Index<Key = CardNumber> + Drop>(desk: &mut Desk<I>, asked: Asked, first: u32) {
-    if let (Asked::Insert, 0) = (asked, first) {
+    if asked == Asked::Insert && first == 0 {
         let _ = desk.perform(Call::Open(0));
     }
 }
@@ -100,25 +103,11 @@ fn ask<I: Index<Key = CardNumber> + Drop>(desk: &mut Desk<I>, asked: Asked, size
     answered
 }
 
-fn per_second(calls: u32, micros: u128) -> u128 {
-    if micros == 0 {
-        return 0;
-    }
-    u128::from(calls).saturating_mul(1000000) / micros
-}
-
-// The line of a measure; without the speed it is the same in every run.
-fn print_line(
-    rt: &HostRuntime,
-    asked: Asked,
-    answered: u32,
-    speed: Option<u128>,
-) -> io::Result<()> {
-    let word = word_of(asked);
-    match speed {
-        None => println!(rt; "  {word}: {answered} answered"),
-        Some(speed) => println!(rt; "  {word}: {answered} answered, {speed} in a second"),
-    }
+fn per_second(calls: u32, spent: Duration) -> u128 {
+    u128::from(calls)
+        .saturating_mul(1000000)
+        .checked_div(spent.as_micros())
+        .unwrap_or(0)
 }
 
 fn measure<I: Index<Key = CardNumber> + Drop>(
@@ -130,12 +119,12 @@ fn measure<I: Index<Key = CardNumber> + Drop>(
     let start = Instant::now(rt)?;
     let answered = ask(desk, asked, size);
     let spent = start.elapsed(rt)?;
-    let speed = if size.timed {
-        Some(per_second(answered, spent.as_micros()))
+    if size.timed {
+        let speed = per_second(answered, spent);
+        println!(rt; "  {asked}: {answered} answered, {speed} in a second")
     } else {
-        None
-    };
-    print_line(rt, asked, answered, speed)
+        println!(rt; "  {asked}: {answered} answered")
+    }
 }
 
 fn measure_all<I: Index<Key = CardNumber> + Drop>(
@@ -150,7 +139,7 @@ fn measure_all<I: Index<Key = CardNumber> + Drop>(
         rows: 0,
         pairs: length,
     };
-    let mut desk = Desk::new(rt.alloc(), index, room)?;
+    let mut desk = Desk::new(rt.alloc(), index, room, BLANK)?;
     for asked in [Asked::Insert, Asked::Read, Asked::Update] {
         measure(rt, &mut desk, asked, size)?;
     }
@@ -162,18 +151,14 @@ fn measure_both(rt: &HostRuntime, size: Size) -> anyhow::Result<()> {
     let length = size.rows as usize * 2;
     let calls = size.transactions.saturating_mul(TOGETHER);
     println!(rt; "{length} entries, {calls} calls of each kind, cards in order")?;
-    measure_all(rt, CardsInOrder::new(rt.alloc(), length)?, size)?;
+    measure_all(rt, InOrder::new(rt.alloc(), length)?, size)?;
     println!(rt; "{length} entries, {calls} calls of each kind, cards in chains")?;
-    measure_all(rt, CardChains::new(rt.alloc(), length)?, size)
+    measure_all(rt, Chains::new(rt.alloc(), length)?, size)
 }
 
 // The word `time` was given.
 fn is_timed(rt: &HostRuntime) -> anyhow::Result<bool> {
-    let mut timed = false;
-    for word in env::args(rt)? {
-        timed = timed || word.as_str() == "time";
-    }
-    Ok(timed)
+    Ok(env::args(rt)?.any(|word| word.as_str() == "time"))
 }
 
 fn run(rt: &HostRuntime) -> anyhow::Result<()> {

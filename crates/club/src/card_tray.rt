@@ -1,68 +1,69 @@
 // A card moves from place to place; whoever looks meanwhile finds it in exactly one place.
-use crate::pieces::{at, card, lying, turned};
-use keys::{BoardPlace, Card};
-use ordered::PlacesInOrder;
+use crate::pieces::{Board, card, lying, turned};
+use desks::ROOMY;
+use keys::BoardPlace;
+use ordered::InOrder;
 use rules::{BookCall, Call};
 use seeing::Level;
-use telling::Desk;
+use telling::Teller;
 
-fn look(
-    rt: &impl Print,
-    desk: &mut Desk<BoardPlace, Card, PlacesInOrder>,
-    name: u64,
-) -> anyhow::Result<()> {
-    desk.show(rt, name, at(0, 0, 0), at(255, 255, 255))
+fn look(rt: &impl Print, teller: &mut Board<InOrder<BoardPlace>>, name: u64) -> anyhow::Result<()> {
+    teller.show(
+        rt,
+        name,
+        BoardPlace::at(0, 0, 0),
+        BoardPlace::at(255, 255, 255),
+    )
 }
 
 // One looks between the two halves of the move, another once the move has its end stamp and is not committed yet.
-fn move_and_look(
-    rt: &impl Print,
-    desk: &mut Desk<BoardPlace, Card, PlacesInOrder>,
-) -> anyhow::Result<()> {
+fn move_and_look(rt: &impl Print, teller: &mut Board<InOrder<BoardPlace>>) -> anyhow::Result<()> {
     println!(rt; "the card is taken up and laid down, and one looks in between")?;
-    let mover = desk.begin(rt, Level::Serializable)?;
-    let _ = desk.ask(rt, mover, BookCall::Delete(at(0, 1, 0)))?;
-    let early = desk.begin(rt, Level::Snapshot)?;
-    look(rt, desk, early)?;
-    let _ = desk.ask(rt, mover, BookCall::Insert(at(1, 2, 3), turned(card(7, 2))))?;
-    look(rt, desk, early)?;
-    desk.settle(rt, early)?;
+    let mover = teller.begin(rt, Level::Serializable)?;
+    let _ = teller.ask(rt, mover, BookCall::Delete(BoardPlace::at(0, 1, 0)))?;
+    let early = teller.begin(rt, Level::Snapshot)?;
+    look(rt, teller, early)?;
+    let _ = teller.ask(
+        rt,
+        mover,
+        BookCall::Insert(BoardPlace::at(1, 2, 3), turned(card(7, 2))),
+    )?;
+    look(rt, teller, early)?;
+    teller.settle(rt, early)?;
     println!(rt; "the move gets its end stamp, and another looks")?;
-    let _ = desk.tell(rt, Call::Prepare(mover))?;
-    let late = desk.begin(rt, Level::Snapshot)?;
-    look(rt, desk, late)?;
-    let _ = desk.tell(rt, Call::Validate(mover))?;
-    look(rt, desk, late)?;
-    end_both(rt, desk, mover, late)
+    let _ = teller.tell(rt, Call::Prepare(mover))?;
+    let late = teller.begin(rt, Level::Snapshot)?;
+    look(rt, teller, late)?;
+    let _ = teller.tell(rt, Call::Validate(mover))?;
+    look(rt, teller, late)?;
+    end_both(rt, teller, mover, late)
 }
 
 // Who looked at a move that is not committed has to wait for it.
 fn end_both(
     rt: &impl Print,
-    desk: &mut Desk<BoardPlace, Card, PlacesInOrder>,
+    teller: &mut Board<InOrder<BoardPlace>>,
     mover: u64,
     late: u64,
 ) -> anyhow::Result<()> {
-    let _ = desk.tell(rt, Call::Prepare(late))?;
-    let _ = desk.tell(rt, Call::Validate(late))?;
-    let _ = desk.tell(rt, Call::Commit(late))?;
+    let _ = teller.tell(rt, Call::Prepare(late))?;
+    let _ = teller.tell(rt, Call::Validate(late))?;
+    let _ = teller.tell(rt, Call::Commit(late))?;
     println!(rt; "the move is committed")?;
-    let _ = desk.tell(rt, Call::Commit(mover))?;
-    let _ = desk.tell(rt, Call::Commit(late))?;
-    let _ = desk.tell(rt, Call::Finish(mover))?;
-    let _ = desk.tell(rt, Call::Finish(late))?;
+    let _ = teller.tell(rt, Call::Commit(mover))?;
+    let _ = teller.tell(rt, Call::Commit(late))?;
+    let _ = teller.tell(rt, Call::Finish(mover))?;
+    let _ = teller.tell(rt, Call::Finish(late))?;
     Ok(())
 }
 
 pub fn play(rt: &HostRuntime) -> anyhow::Result<()> {
-    let index = PlacesInOrder::new(rt.alloc(), 8)?;
-    let blank = lying(at(0, 0, 0), card(0, 0));
-    let mut desk = Desk::new(rt.alloc(), index, 8, blank)?;
-    desk.set_up(rt, &[lying(at(0, 1, 0), card(7, 2))])?;
-    move_and_look(rt, &mut desk)?;
-    let name = desk.begin(rt, Level::Snapshot)?;
-    look(rt, &mut desk, name)?;
-    desk.settle(rt, name)?;
-    let _ = desk.tell(rt, Call::Sweep)?;
+    let index = InOrder::new(rt.alloc(), ROOMY.pairs)?;
+    let blank = lying(BoardPlace::at(0, 0, 0), card(0, 0));
+    let mut teller = Teller::new(rt.alloc(), index, ROOMY, blank)?;
+    teller.set_up(rt, &[lying(BoardPlace::at(0, 1, 0), card(7, 2))])?;
+    move_and_look(rt, &mut teller)?;
+    teller.show_now(rt, BoardPlace::at(0, 0, 0), BoardPlace::at(255, 255, 255))?;
+    let _ = teller.tell(rt, Call::Sweep)?;
     Ok(())
 }

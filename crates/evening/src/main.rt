@@ -2,19 +2,14 @@
 // answer next to the store's, and the rows of both at the end.
 #![tactic(auto)]
 
+use desks::ROOMY;
 use keys::{CardNumber, Score};
-use ordered::CardsInOrder;
+use ordered::InOrder;
 use rules::{BookCall, Call, Row};
 use seeing::Level;
-use telling::{Desk, print_rows};
+use telling::Teller;
 
-fn row(key: u32, value: i32) -> Row<CardNumber, Score> {
-    Row {
-        key: CardNumber(key),
-        value: Score(value),
-    }
-}
-
+// Insert and update: two short words for the long list below.
 fn insert(name: u64, key: u32, value: i32) -> Call<CardNumber, Score> {
     Call::Book(name, BookCall::Insert(CardNumber(key), Score(value)))
 }
@@ -48,30 +43,23 @@ fn calls() -> [Call<CardNumber, Score>; 19] {
     ]
 }
 
-// The rows of the store, as a snapshot transaction scans them.
-fn show_store(
-    rt: &impl Print,
-    desk: &mut Desk<CardNumber, Score, CardsInOrder>,
-) -> anyhow::Result<()> {
-    let name = desk.begin(rt, Level::Snapshot)?;
-    desk.show(rt, name, CardNumber(0), CardNumber(4294967295))?;
-    desk.settle(rt, name)?;
-    Ok(())
-}
-
 fn run(rt: &HostRuntime) -> anyhow::Result<()> {
     let heap = rt.alloc();
-    let index = CardsInOrder::new(heap, 8)?;
-    let mut desk = Desk::new(heap, index, 8, row(0, 0))?;
+    let index = InOrder::new(heap, ROOMY.pairs)?;
+    let blank = Row {
+        key: CardNumber(0),
+        value: Score(0),
+    };
+    let mut teller = Teller::new(heap, index, ROOMY, blank)?;
     println!(rt; "the evening")?;
-    desk.play(rt, heap, &calls())?;
+    teller.play(rt, heap, &calls())?;
     println!(rt; "retold by end stamp")?;
-    let book = desk.retell(rt, heap)?;
+    let book = teller.retell(rt, heap)?;
     println!(rt; "the store at the end")?;
-    show_store(rt, &mut desk)?;
+    teller.show_now(rt, CardNumber(0), CardNumber(4294967295))?;
     println!(rt; "the book at the end")?;
-    print_rows(rt, book.rows(), book.rows().len())?;
-    let _ = desk.tell(rt, Call::Tally)?;
+    print!(rt; "{book}")?;
+    let _ = teller.tell(rt, Call::Tally)?;
     Ok(())
 }
 

@@ -1,13 +1,14 @@
 // Files a deck of cards in an index: the same actions over both indexes and both kinds of key, each printed on a line.
 #![tactic(auto)]
 
-use chains::{CardChains, PlaceChains};
-use index::{Index, Put, next_pair};
+use chains::Chains;
+use index::{Index, Put, pairs_between};
 use keys::{BoardPlace, CardNumber, Key};
-use ordered::{CardsInOrder, PlacesInOrder};
+use ordered::InOrder;
 use std::fmt::Display;
 use std::io;
 
+// The handle is lent to each function anew: a struct of handle and index would only rename the two.
 fn file_one<K: Key + Display + Drop, I: Index<Key = K>>(
     rt: &impl Print,
     index: &mut I,
@@ -17,10 +18,7 @@ fn file_one<K: Key + Display + Drop, I: Index<Key = K>>(
     match index.put(key, place) {
         Ok(Put::Added) => println!(rt; "put {key} at {place}: added"),
         Ok(Put::Present) => println!(rt; "put {key} at {place}: present"),
-        Err(fault) => {
-            let capacity = fault.capacity;
-            println!(rt; "put {key} at {place}: full, {capacity} pairs fit")
-        }
+        Err(fault) => println!(rt; "put {key} at {place}: full, {} pairs fit", fault.capacity),
     }
 }
 
@@ -61,22 +59,15 @@ fn next_card<K: Key + Display + Drop, I: Index<Key = K>>(
     }
 }
 
-// The pairs from lower to upper, by key and then place; at most as many as fit.
+// The pairs from lower to upper, by key and then place.
 fn list<K: Key + Display + Drop, I: Index<Key = K>>(
     rt: &impl Print,
     index: &I,
     lower: K,
     upper: K,
 ) -> io::Result<()> {
-    let mut key = lower;
-    let mut from = 0usize;
-    for _ in 0..index.capacity() {
-        let Some((found, place)) = next_pair(index, key, from, upper) else {
-            return Ok(());
-        };
-        println!(rt; "  {found} at {place}")?;
-        key = found;
-        from = place.saturating_add(1);
+    for (key, place) in pairs_between(index, lower, upper) {
+        println!(rt; "  {key} at {place}")?;
     }
     Ok(())
 }
@@ -143,29 +134,25 @@ fn cards() -> Deck<CardNumber> {
     }
 }
 
-fn at(seat: u8, zone: u8, slot: u8) -> BoardPlace {
-    BoardPlace { seat, zone, slot }
-}
-
 fn places() -> Deck<BoardPlace> {
     Deck {
-        highest: at(4, 0, 0),
-        lowest: at(0, 0, 0),
-        moved: at(1, 2, 3),
-        second: at(0, 2, 3),
-        middle: at(1, 2, 0),
+        highest: BoardPlace::at(4, 0, 0),
+        lowest: BoardPlace::at(0, 0, 0),
+        moved: BoardPlace::at(1, 2, 3),
+        second: BoardPlace::at(0, 2, 3),
+        middle: BoardPlace::at(1, 2, 0),
     }
 }
 
 fn run(rt: &HostRuntime) -> anyhow::Result<()> {
     println!(rt; "cards in order")?;
-    file_deck(rt, &mut CardsInOrder::new(rt.alloc(), 6)?, cards())?;
+    file_deck(rt, &mut InOrder::new(rt.alloc(), 6)?, cards())?;
     println!(rt; "cards in chains")?;
-    file_deck(rt, &mut CardChains::new(rt.alloc(), 6)?, cards())?;
+    file_deck(rt, &mut Chains::new(rt.alloc(), 6)?, cards())?;
     println!(rt; "places in order")?;
-    file_deck(rt, &mut PlacesInOrder::new(rt.alloc(), 6)?, places())?;
+    file_deck(rt, &mut InOrder::new(rt.alloc(), 6)?, places())?;
     println!(rt; "places in chains")?;
-    file_deck(rt, &mut PlaceChains::new(rt.alloc(), 6)?, places())?;
+    file_deck(rt, &mut Chains::new(rt.alloc(), 6)?, places())?;
     Ok(())
 }
 

@@ -1,11 +1,13 @@
 // Edges: capacities, the lowest and highest keys and places, keys that share a chain.
-use chains::{CardChains, PlaceChains};
+use chains::Chains;
 use index::{Index, IndexFault, Put};
 use keys::{BoardPlace, CardNumber, Key};
-use ordered::{CardsInOrder, PlacesInOrder};
+use ordered::InOrder;
+use std::fmt::Debug;
 use std::process::Abort;
 use std::test::Fail;
 
+// Handle, index and key are lent to each function anew: a struct of them would only rename them.
 // A full index refuses another pair, says "present" of one that it has, and is as it was.
 fn none_fits<K: Key + Drop, I: Index<Key = K>>(rt: &impl Abort, index: &mut I, key: K) {
     assert_eq!(rt; index.capacity(), 0);
@@ -36,49 +38,32 @@ fn one_fits<K: Key + Drop, I: Index<Key = K>>(rt: &impl Abort, index: &mut I, lo
 }
 
 // The lowest and the highest key, from below, at and above.
-fn ends_of_the_order<K: Key + Drop, I: Index<Key = K>>(
+fn ends_of_the_order<K: Key + PartialEq + Debug + Drop, I: Index<Key = K>>(
     rt: &impl Abort,
     index: &mut I,
     low: K,
     high: K,
-) -> Result<(), Fail> {
+) {
     assert_eq!(rt; index.put(high, 3), Ok(Put::Added));
-    let Some(found) = index.next_key(low, false) else {
-        return Err(Fail::new("a key above"));
-    };
-    assert!(rt; found.equals(&high));
+    assert_eq!(rt; index.next_key(low, false), Some(high), "a key above");
     assert_eq!(rt; index.put(low, 4), Ok(Put::Added));
-    let Some(first) = index.next_key(low, false) else {
-        return Err(Fail::new("the lowest key"));
-    };
-    assert!(rt; first.equals(&low));
-    let Some(second) = index.next_key(low, true) else {
-        return Err(Fail::new("the next key"));
-    };
-    assert!(rt; second.equals(&high));
-    assert!(rt; index.next_key(high, false).is_some());
-    assert!(rt; index.next_key(high, true).is_none());
-    Ok(())
+    assert_eq!(rt; index.next_key(low, false), Some(low), "the lowest key");
+    assert_eq!(rt; index.next_key(low, true), Some(high), "the next key");
+    assert_eq!(rt; index.next_key(high, false), Some(high));
+    assert_eq!(rt; index.next_key(high, true), None);
 }
 
 fn place(n: u8) -> BoardPlace {
-    BoardPlace {
-        seat: n,
-        zone: n,
-        slot: n,
-    }
+    BoardPlace::at(n, n, n)
 }
 
+// Each test names the types one by one: a closure can't be generic over the kind of index.
 #[test]
 fn no_room(rt: HostRuntime) -> Result<(), Fail> {
-    none_fits(&rt, &mut CardsInOrder::new(rt.alloc(), 0)?, CardNumber(0));
-    none_fits(
-        &rt,
-        &mut CardChains::new(rt.alloc(), 0)?,
-        CardNumber(u32::MAX),
-    );
-    none_fits(&rt, &mut PlacesInOrder::new(rt.alloc(), 0)?, place(0));
-    none_fits(&rt, &mut PlaceChains::new(rt.alloc(), 0)?, place(255));
+    none_fits(&rt, &mut InOrder::new(rt.alloc(), 0)?, CardNumber(0));
+    none_fits(&rt, &mut Chains::new(rt.alloc(), 0)?, CardNumber(u32::MAX));
+    none_fits(&rt, &mut InOrder::new(rt.alloc(), 0)?, place(0));
+    none_fits(&rt, &mut Chains::new(rt.alloc(), 0)?, place(255));
     Ok(())
 }
 
@@ -86,28 +71,18 @@ fn no_room(rt: HostRuntime) -> Result<(), Fail> {
 fn room_for_one(rt: HostRuntime) -> Result<(), Fail> {
     one_fits(
         &rt,
-        &mut CardsInOrder::new(rt.alloc(), 1)?,
+        &mut InOrder::new(rt.alloc(), 1)?,
         CardNumber(0),
         CardNumber(u32::MAX),
     );
     one_fits(
         &rt,
-        &mut CardChains::new(rt.alloc(), 1)?,
+        &mut Chains::new(rt.alloc(), 1)?,
         CardNumber(0),
         CardNumber(u32::MAX),
     );
-    one_fits(
-        &rt,
-        &mut PlacesInOrder::new(rt.alloc(), 1)?,
-        place(0),
-        place(255),
-    );
-    one_fits(
-        &rt,
-        &mut PlaceChains::new(rt.alloc(), 1)?,
-        place(0),
-        place(255),
-    );
+    one_fits(&rt, &mut InOrder::new(rt.alloc(), 1)?, place(0), place(255));
+    one_fits(&rt, &mut Chains::new(rt.alloc(), 1)?, place(0), place(255));
     Ok(())
 }
 
@@ -115,28 +90,19 @@ fn room_for_one(rt: HostRuntime) -> Result<(), Fail> {
 fn lowest_and_highest(rt: HostRuntime) -> Result<(), Fail> {
     ends_of_the_order(
         &rt,
-        &mut CardsInOrder::new(rt.alloc(), 2)?,
+        &mut InOrder::new(rt.alloc(), 2)?,
         CardNumber(0),
         CardNumber(u32::MAX),
-    )?;
+    );
     ends_of_the_order(
         &rt,
-        &mut CardChains::new(rt.alloc(), 2)?,
+        &mut Chains::new(rt.alloc(), 2)?,
         CardNumber(0),
         CardNumber(u32::MAX),
-    )?;
-    ends_of_the_order(
-        &rt,
-        &mut PlacesInOrder::new(rt.alloc(), 2)?,
-        place(0),
-        place(255),
-    )?;
-    ends_of_the_order(
-        &rt,
-        &mut PlaceChains::new(rt.alloc(), 2)?,
-        place(0),
-        place(255),
-    )
+    );
+    ends_of_the_order(&rt, &mut InOrder::new(rt.alloc(), 2)?, place(0), place(255));
+    ends_of_the_order(&rt, &mut Chains::new(rt.alloc(), 2)?, place(0), place(255));
+    Ok(())
 }
 
 // 65,536 pairs under 4,096 keys, filled, asked and taken out again.
@@ -169,8 +135,8 @@ fn fill<I: Index<Key = CardNumber>>(rt: &impl Abort, index: &mut I) {
 
 #[test]
 fn room_for_65536(rt: HostRuntime) -> Result<(), Fail> {
-    fill(&rt, &mut CardsInOrder::new(rt.alloc(), 65536)?);
-    fill(&rt, &mut CardChains::new(rt.alloc(), 65536)?);
+    fill(&rt, &mut InOrder::new(rt.alloc(), 65536)?);
+    fill(&rt, &mut Chains::new(rt.alloc(), 65536)?);
     Ok(())
 }
 
@@ -205,7 +171,7 @@ fn share_a_chain<I: Index<Key = CardNumber>>(rt: &impl Abort, index: &mut I) {
 
 #[test]
 fn one_chain(rt: HostRuntime) -> Result<(), Fail> {
-    share_a_chain(&rt, &mut CardChains::new(rt.alloc(), 257)?);
-    share_a_chain(&rt, &mut CardsInOrder::new(rt.alloc(), 257)?);
+    share_a_chain(&rt, &mut Chains::new(rt.alloc(), 257)?);
+    share_a_chain(&rt, &mut InOrder::new(rt.alloc(), 257)?);
     Ok(())
 }

@@ -1,8 +1,8 @@
-// Many calls in one table, each with its answer, played through all four types.
-use chains::{CardChains, PlaceChains};
-use index::{Index, Put};
+// Many calls in one table, each with its answer, played through both indexes over both kinds of key.
+use chains::Chains;
+use index::{Index, IndexFault, Put};
 use keys::{BoardPlace, CardNumber, Key};
-use ordered::{CardsInOrder, PlacesInOrder};
+use ordered::InOrder;
 use std::process::Abort;
 use std::test::Fail;
 
@@ -62,38 +62,38 @@ const CASES: [(Ask, Told); 30] = [
     (Ask::Put(4, 9), Told::Added),
 ];
 
-fn number_of<K: Key>(keys: &[K; 6], key: Option<K>) -> Told {
-    let Some(key) = key else {
-        return Told::Nothing;
-    };
-    for i in 0..6usize {
-        if keys[i].equals(&key) {
-            return Told::Key(i);
+impl From<bool> for Told {
+    fn from(removed: bool) -> Told {
+        if removed { Told::Yes } else { Told::No }
+    }
+}
+
+impl From<Result<Put, IndexFault>> for Told {
+    fn from(put: Result<Put, IndexFault>) -> Told {
+        match put {
+            Ok(Put::Added) => Told::Added,
+            Ok(Put::Present) => Told::Present,
+            Err(_) => Told::Full,
         }
     }
-    Told::Nothing
 }
 
-fn yes_or_no(b: bool) -> Told {
-    if b { Told::Yes } else { Told::No }
+fn number_of<K: Key + PartialEq + Drop>(keys: &[K; 6], key: Option<K>) -> Told {
+    key.and_then(|key| keys.iter().position(|k| *k == key))
+        .map_or(Told::Nothing, Told::Key)
 }
 
-fn answer_to<K: Key + Drop, I: Index<Key = K>>(
+fn answer_to<K: Key + PartialEq + Drop, I: Index<Key = K>>(
     index: &mut I,
     keys: &[K; 6],
     question: Ask,
 ) -> Told {
     match question {
-        Ask::Put(k, place) => match index.put(keys[k % 6], place) {
-            Ok(Put::Added) => Told::Added,
-            Ok(Put::Present) => Told::Present,
-            Err(_) => Told::Full,
-        },
-        Ask::Remove(k, place) => yes_or_no(index.remove(keys[k % 6], place)),
-        Ask::NextPlace(k, from) => match index.next_place(keys[k % 6], from) {
-            Some(place) => Told::Place(place),
-            None => Told::Nothing,
-        },
+        Ask::Put(k, place) => index.put(keys[k % 6], place).into(),
+        Ask::Remove(k, place) => index.remove(keys[k % 6], place).into(),
+        Ask::NextPlace(k, from) => index
+            .next_place(keys[k % 6], from)
+            .map_or(Told::Nothing, Told::Place),
         Ask::At(k) => number_of(keys, index.next_key(keys[k % 6], false)),
         Ask::Above(k) => number_of(keys, index.next_key(keys[k % 6], true)),
         Ask::Clear => {
@@ -103,15 +103,14 @@ fn answer_to<K: Key + Drop, I: Index<Key = K>>(
     }
 }
 
-fn play<K: Key + Drop, I: Index<Key = K>>(rt: &impl Abort, index: &mut I, keys: [K; 6]) {
-    for i in 0..30usize {
-        let (question, told) = CASES[i];
-        assert_eq!(rt; answer_to(index, &keys, question), told, "{}", i);
+fn play<K: Key + PartialEq + Drop, I: Index<Key = K>>(
+    rt: &impl Abort,
+    index: &mut I,
+    keys: [K; 6],
+) {
+    for (i, (question, told)) in CASES.iter().enumerate() {
+        assert_eq!(rt; answer_to(index, &keys, *question), *told, "{i}");
     }
-}
-
-fn at(seat: u8, zone: u8, slot: u8) -> BoardPlace {
-    BoardPlace { seat, zone, slot }
 }
 
 // The cards share one chain; the places share one by their slots.
@@ -126,16 +125,16 @@ fn cases(rt: HostRuntime) -> Result<(), Fail> {
         CardNumber(4294967040),
     ];
     let places = [
-        at(0, 0, 9),
-        at(0, 1, 9),
-        at(0, 2, 9),
-        at(1, 0, 9),
-        at(1, 1, 9),
-        at(255, 0, 9),
+        BoardPlace::at(0, 0, 9),
+        BoardPlace::at(0, 1, 9),
+        BoardPlace::at(0, 2, 9),
+        BoardPlace::at(1, 0, 9),
+        BoardPlace::at(1, 1, 9),
+        BoardPlace::at(255, 0, 9),
     ];
-    play(&rt, &mut CardsInOrder::new(rt.alloc(), 4)?, cards);
-    play(&rt, &mut CardChains::new(rt.alloc(), 4)?, cards);
-    play(&rt, &mut PlacesInOrder::new(rt.alloc(), 4)?, places);
-    play(&rt, &mut PlaceChains::new(rt.alloc(), 4)?, places);
+    play(&rt, &mut InOrder::new(rt.alloc(), 4)?, cards);
+    play(&rt, &mut Chains::new(rt.alloc(), 4)?, cards);
+    play(&rt, &mut InOrder::new(rt.alloc(), 4)?, places);
+    play(&rt, &mut Chains::new(rt.alloc(), 4)?, places);
     Ok(())
 }

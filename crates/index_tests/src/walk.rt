@@ -1,52 +1,25 @@
 // A random walk: an index beside a plain list of pairs, asked the same.
-use chains::CardChains;
+use chains::Chains;
 use index::{Index, IndexFault, Put};
 use keys::{CardNumber, Key};
-use ordered::CardsInOrder;
+use ordered::InOrder;
 use std::process::Abort;
 use std::test::Fail;
 
-fn has(pairs: &Vec<(u32, usize)>, key: u32, place: usize) -> bool {
-    for pair in pairs.as_slice() {
-        if pair.0 == key && pair.1 == place {
-            return true;
-        }
-    }
-    false
+fn lowest_place(pairs: &[(u32, usize)], key: u32, from: usize) -> Option<usize> {
+    pairs
+        .iter()
+        .filter(|(k, place)| *k == key && *place >= from)
+        .map(|(_, place)| *place)
+        .min()
 }
 
-fn lowest_place(pairs: &Vec<(u32, usize)>, key: u32, from: usize) -> Option<usize> {
-    let mut best: Option<usize> = None;
-    for pair in pairs.as_slice() {
-        if pair.0 == key && pair.1 >= from && pair.1 < best.unwrap_or(usize::MAX) {
-            best = Some(pair.1);
-        }
-    }
-    best
-}
-
-fn lowest_key(pairs: &Vec<(u32, usize)>, key: u32, strictly: bool) -> Option<u32> {
-    let mut best: Option<u32> = None;
-    for pair in pairs.as_slice() {
-        let far_enough = if strictly {
-            pair.0 > key
-        } else {
-            pair.0 >= key
-        };
-        if far_enough && pair.0 < best.unwrap_or(u32::MAX) {
-            best = Some(pair.0);
-        }
-    }
-    best
-}
-
-fn without(pairs: &mut Vec<(u32, usize)>, key: u32, place: usize) {
-    for i in 0..pairs.len() {
-        if i < pairs.len() && pairs[i].0 == key && pairs[i].1 == place {
-            let _ = pairs.remove(i);
-            return;
-        }
-    }
+fn lowest_key(pairs: &[(u32, usize)], key: u32, strictly: bool) -> Option<u32> {
+    pairs
+        .iter()
+        .map(|(k, _)| *k)
+        .filter(|k| *k > key || !strictly && *k == key)
+        .min()
 }
 
 fn put_both<I: Index<Key = CardNumber>>(
@@ -56,7 +29,7 @@ fn put_both<I: Index<Key = CardNumber>>(
     key: u32,
     place: usize,
 ) -> Result<(), Fail> {
-    let expected = if has(pairs, key, place) {
+    let expected = if pairs.contains(&(key, place)) {
         Ok(Put::Present)
     } else if pairs.len() >= 40 {
         Err(IndexFault { capacity: 40 })
@@ -75,15 +48,15 @@ fn remove_both<I: Index<Key = CardNumber>>(
     key: u32,
     place: usize,
 ) {
-    let there = has(pairs, key, place);
-    without(pairs, key, place);
+    let there = pairs.contains(&(key, place));
+    pairs.retain(|pair| *pair != (key, place));
     assert_eq!(rt; index.remove(CardNumber(key), place), there);
 }
 
-fn same_nexts<I: Index<Key = CardNumber>>(
+fn check_nexts<I: Index<Key = CardNumber>>(
     rt: &impl Abort,
     index: &I,
-    pairs: &Vec<(u32, usize)>,
+    pairs: &[(u32, usize)],
     key: u32,
     place: usize,
 ) {
@@ -92,11 +65,10 @@ fn same_nexts<I: Index<Key = CardNumber>>(
         lowest_place(pairs, key, place)
     );
     for strictly in [false, true] {
-        let found = match index.next_key(CardNumber(key), strictly) {
-            Some(k) => Some(k.0),
-            None => None,
-        };
-        assert_eq!(rt; found, lowest_key(pairs, key, strictly));
+        assert_eq!(rt;
+            index.next_key(CardNumber(key), strictly),
+            lowest_key(pairs, key, strictly).map(CardNumber)
+        );
     }
 }
 
@@ -119,7 +91,7 @@ fn step<I: Index<Key = CardNumber>>(
             }
         }
     }
-    same_nexts(rt, index, pairs, key, place);
+    check_nexts(rt, index, pairs, key, place);
     Ok(())
 }
 
@@ -140,8 +112,8 @@ fn walk<I: Index<Key = CardNumber>>(
 #[test]
 fn beside_a_list(rt: HostRuntime) -> Result<(), Fail> {
     for seed in 1..9u32 {
-        walk(&rt, &mut CardsInOrder::new(rt.alloc(), 40)?, seed)?;
-        walk(&rt, &mut CardChains::new(rt.alloc(), 40)?, seed)?;
+        walk(&rt, &mut InOrder::new(rt.alloc(), 40)?, seed)?;
+        walk(&rt, &mut Chains::new(rt.alloc(), 40)?, seed)?;
     }
     Ok(())
 }

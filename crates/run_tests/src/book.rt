@@ -1,15 +1,22 @@
 // The plain book: a value or none for each of eight keys, and no transactions.
 ghost use Rattle.std.specs.Prelude.{◌<◌};
 
-use crate::draws::APART;
+use crate::draws::{APART, KEYS};
 use keys::{CardNumber, Score};
 use rules::{Answer, BookCall, Row};
 
 /// What was answered, with a sum over the rows of a scan (0 for any other call).
-#[derive(Clone, Copy)]
+#[derive(Clone, Copy, PartialEq, Eq, Debug)]
 pub struct Told {
     pub answer: Answer<Score>,
     pub rows: u64,
+}
+
+/// An answer without rows.
+impl From<Answer<Score>> for Told {
+    fn from(answer: Answer<Score>) -> Told {
+        Told { answer, rows: 0 }
+    }
 }
 
 fn add_row(sum: u64, key: u32, value: i32) -> u64 {
@@ -24,11 +31,9 @@ pub fn sum_of(rows: &[Row<CardNumber, Score>], answer: Answer<Score>) -> u64 {
     let Answer::Number(number) = answer else {
         return 0;
     };
-    let mut sum = 0u64;
-    for row in rows.iter().take(number) {
-        sum = add_row(sum, row.key.0, row.value.0);
-    }
-    sum
+    rows.iter()
+        .take(number)
+        .fold(0, |sum, row| add_row(sum, row.key.0, row.value.0))
 }
 
 /// The book; the key of each value is its place times the distance of two keys.
@@ -61,17 +66,25 @@ impl Book {
     pub fn tell(&self, call: BookCall<CardNumber, Score>) -> Told {
         match call {
             BookCall::Scan(lower, upper) => self.tell_rows(lower.0, upper.0),
-            BookCall::Read(key) => tell_value(self.value(key)),
-            BookCall::Insert(key, _) => tell_insert(self.value(key)),
-            BookCall::Update(key, _) => tell_change(self.value(key)),
-            BookCall::Delete(key) => tell_change(self.value(key)),
+            BookCall::Read(key) => self
+                .value(key)
+                .map_or(Answer::Absent, |value| Answer::Value(Score(value)))
+                .into(),
+            BookCall::Insert(key, _) => self
+                .value(key)
+                .map_or(Answer::Done, |_| Answer::Present)
+                .into(),
+            BookCall::Update(key, _) | BookCall::Delete(key) => self
+                .value(key)
+                .map_or(Answer::Absent, |_| Answer::Done)
+                .into(),
         }
     }
 
     fn tell_rows(&self, lower: u32, upper: u32) -> Told {
         let mut sum = 0u64;
         let mut number = 0usize;
-        for i in 0..8u32 {
+        for i in 0..KEYS {
             if let Some(value) = self.row(i * APART, lower, upper) {
                 sum = add_row(sum, i * APART, value);
                 number = number.saturating_add(1);
@@ -97,35 +110,11 @@ impl Book {
             return;
         };
         match call {
-            BookCall::Insert(key, value) => self.set(key, Some(value.0)),
-            BookCall::Update(key, value) => self.set(key, Some(value.0)),
+            BookCall::Insert(key, value) | BookCall::Update(key, value) => {
+                self.set(key, Some(value.0))
+            }
             BookCall::Delete(key) => self.set(key, None),
-            _ => (),
+            BookCall::Read(_) | BookCall::Scan(_, _) => (),
         }
-    }
-}
-
-fn plainly(answer: Answer<Score>) -> Told {
-    Told { answer, rows: 0 }
-}
-
-fn tell_value(value: Option<i32>) -> Told {
-    match value {
-        Some(value) => plainly(Answer::Value(Score(value))),
-        None => plainly(Answer::Absent),
-    }
-}
-
-fn tell_insert(value: Option<i32>) -> Told {
-    match value {
-        Some(_) => plainly(Answer::Present),
-        None => plainly(Answer::Done),
-    }
-}
-
-fn tell_change(value: Option<i32>) -> Told {
-    match value {
-        Some(_) => plainly(Answer::Done),
-        None => plainly(Answer::Absent),
     }
 }

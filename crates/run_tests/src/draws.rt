@@ -2,9 +2,9 @@
 ghost use Rattle.std.specs.Prelude.{◌<◌, max};
 
 use keys::{CardNumber, Score};
-use rules::{Answer, BookCall, Call};
+use rules::{Answer, BookCall, Call, Refusal};
 use seeing::{Begin, End, Level, Version};
-use trying::{Said, Trouble, number_of};
+use trying::{Said, Trouble};
 
 /// The keys are the multiples of this number, so that many share a chain.
 pub const APART: u32 = 128;
@@ -122,6 +122,7 @@ pub const AWAY: Player = Player {
 impl Player {
     /// The player's next call.
     pub fn next_call(&self, draws: &mut Draws) -> Call<CardNumber, Score> {
+        // Each stage draws in its own way: closures would be these six lines again.
         match self.stage {
             Stage::Away => Call::Begin(draws.level()),
             Stage::Active => self.next_of_active(draws),
@@ -165,14 +166,14 @@ impl Player {
     pub fn after(self, call: Call<CardNumber, Score>, said: Said) -> Player {
         match said {
             Ok(answer) => self.after_answer(call, answer),
-            Err(_) => self.after_refusal(number_of(said)),
+            Err(refusal) => self.after_refusal(refusal),
         }
     }
 
-    fn after_refusal(self, number: u8) -> Player {
-        let stage = match number {
-            5 => Stage::Doomed,
-            8 | 15 => Stage::Ended,
+    fn after_refusal(self, refusal: Refusal) -> Player {
+        let stage = match refusal {
+            Refusal::Doomed => Stage::Doomed,
+            Refusal::Conflict | Refusal::Validation => Stage::Ended,
             _ => self.stage,
         };
         Player { stage, ..self }
@@ -197,8 +198,7 @@ fn stage_after(call: Call<CardNumber, Score>, stage: Stage) -> Stage {
     match call {
         Call::Prepare(_) => Stage::Preparing,
         Call::Validate(_) => Stage::Validated,
-        Call::Commit(_) => Stage::Ended,
-        Call::Abort(_) => Stage::Ended,
+        Call::Commit(_) | Call::Abort(_) => Stage::Ended,
         Call::Finish(_) => Stage::Away,
         _ => stage,
     }

@@ -1,11 +1,11 @@
 // What was asked and answered, by transaction, and its retelling on a plain book.
+// Not telling's transcript and book: these keep the level and a sum over the rows of a scan, and replay without a heap.
 use crate::book::{Book, Told};
 use keys::{CardNumber, Score};
 use rules::{Answer, BookCall, Call};
 use seeing::Level;
 use std::alloc::{AllocError, Global};
 use std::process::Abort;
-use trying::same_answer;
 
 /// A call on rows that was not refused.
 #[derive(Clone, Copy)]
@@ -74,25 +74,17 @@ impl Record {
     }
 
     pub fn commits(&self) -> u64 {
-        let mut commits = 0u64;
-        for turn in self.turns.iter() {
-            if turn.committed {
-                commits = commits.saturating_add(1);
-            }
-        }
-        commits
+        self.turns.iter().filter(|turn| turn.committed).count() as u64
     }
 
     // Plays a transaction on the book; how many of its answers were not the book's.
     fn play(&self, book: &mut Book, name: u64) -> u32 {
         let mut wrong = 0u32;
-        for one in self.asked.iter() {
-            if one.name == name {
-                if !same(book.tell(one.call), one.told) {
-                    wrong = wrong.saturating_add(1);
-                }
-                book.follow(one.call, one.told.answer);
+        for one in self.asked.iter().filter(|one| one.name == name) {
+            if book.tell(one.call) != one.told {
+                wrong = wrong.saturating_add(1);
             }
+            book.follow(one.call, one.told.answer);
         }
         wrong
     }
@@ -100,10 +92,12 @@ impl Record {
     /// The book once all commits with an end stamp below the limit are played.
     fn book_before(&self, limit: u64) -> Book {
         let mut book = Book::new();
-        for turn in self.turns.iter() {
-            if turn.committed && turn.end < limit {
-                let _ = self.play(&mut book, turn.name);
-            }
+        for turn in self
+            .turns
+            .iter()
+            .filter(|turn| turn.committed && turn.end < limit)
+        {
+            let _ = self.play(&mut book, turn.name);
         }
         book
     }
@@ -112,12 +106,10 @@ impl Record {
     /// were played. The book at the end.
     pub fn check_serial(&self, rt: &impl Abort) -> Book {
         let mut book = Book::new();
-        for turn in self.turns.iter() {
-            if turn.committed {
-                let wrong = self.play(&mut book, turn.name);
-                if let Level::Serializable = turn.level {
-                    assert_eq!(rt; wrong, 0);
-                }
+        for turn in self.turns.iter().filter(|turn| turn.committed) {
+            let wrong = self.play(&mut book, turn.name);
+            if turn.level == Level::Serializable {
+                assert_eq!(rt; wrong, 0);
             }
         }
         book
@@ -125,15 +117,9 @@ impl Record {
 
     /// One moment: each transaction got the answers of the book on which the commits below its begin stamp were played.
     pub fn check_moments(&self, rt: &impl Abort) {
-        for turn in self.turns.iter() {
-            if turn.committed {
-                let mut book = self.book_before(turn.name);
-                assert_eq!(rt; self.play(&mut book, turn.name), 0);
-            }
+        for turn in self.turns.iter().filter(|turn| turn.committed) {
+            let mut book = self.book_before(turn.name);
+            assert_eq!(rt; self.play(&mut book, turn.name), 0);
         }
     }
-}
-
-fn same(one: Told, other: Told) -> bool {
-    one.rows == other.rows && same_answer(one.answer, other.answer)
 }

@@ -2,16 +2,16 @@
 use crate::book::{Book, Told, sum_of};
 use crate::draws::{AWAY, Draws, Player};
 use crate::record::Record;
-use chains::CardChains;
-use index::Index;
+use chains::Chains;
+use desks::Room;
 use keys::{CardNumber, Score};
-use ordered::CardsInOrder;
-use rules::{Answer, BookCall, Call};
+use ordered::InOrder;
+use rules::{Answer, BookCall, Call, Refusal};
 use seeing::Level;
 use std::alloc::{AllocError, Global};
 use std::process::Abort;
 use std::test::Fail;
-use trying::{Desk, Room, Said, number_of, same_answer};
+use trying::{BLANK, Desk, Said, disturb};
 
 const PLAYERS: usize = 6;
 
@@ -26,8 +26,8 @@ const ALL_ROWS: BookCall<CardNumber, Score> = BookCall::Scan(CardNumber(0), Card
 
 #[derive(Drop)]
 struct Run {
-    ordered: Desk<CardsInOrder>,
-    chained: Desk<CardChains>,
+    ordered: Desk<InOrder<CardNumber>>,
+    chained: Desk<Chains<CardNumber>>,
     players: [Player; PLAYERS],
     draws: Draws,
     record: Record,
@@ -35,7 +35,7 @@ struct Run {
 }
 
 // How often each matter came up.
-#[derive(Clone, Copy)]
+#[derive(Clone, Copy, Default)]
 struct Counts {
     commits: u64,
     wrong: u64,
@@ -46,28 +46,19 @@ struct Counts {
     shortages: u64,
 }
 
-const NO_COUNTS: Counts = Counts {
-    commits: 0,
-    wrong: 0,
-    conflicts: 0,
-    failures: 0,
-    waits: 0,
-    dooms: 0,
-    shortages: 0,
-};
-
 impl Counts {
-    // One more call that met the refusal of that number.
-    fn count(&mut self, number: u8) {
-        match number {
-            5 => self.dooms = self.dooms.saturating_add(1),
-            7 => self.wrong = self.wrong.saturating_add(1),
-            8 => self.conflicts = self.conflicts.saturating_add(1),
-            10..=12 => self.shortages = self.shortages.saturating_add(1),
-            15 => self.failures = self.failures.saturating_add(1),
-            16 => self.waits = self.waits.saturating_add(1),
-            _ => (),
-        }
+    // One more call that met the refusal.
+    fn count(&mut self, refusal: Refusal) {
+        let counter = match refusal {
+            Refusal::Doomed => &mut self.dooms,
+            Refusal::Version => &mut self.wrong,
+            Refusal::Conflict => &mut self.conflicts,
+            Refusal::Notes | Refusal::Versions | Refusal::Full(_, _) => &mut self.shortages,
+            Refusal::Validation => &mut self.failures,
+            Refusal::Waiting(_) => &mut self.waits,
+            _ => return,
+        };
+        *counter = counter.saturating_add(1);
     }
 
     // Every matter came up often enough to show something.
@@ -77,25 +68,10 @@ impl Counts {
     }
 }
 
-fn same_said(one: Said, other: Said) -> bool {
-    match (one, other) {
-        (Ok(a), Ok(b)) => same_answer(a, b),
-        _ => number_of(one) == number_of(other),
-    }
-}
-
-fn in_order(heap: Global) -> Result<Desk<CardsInOrder>, AllocError> {
-    Desk::new(heap, CardsInOrder::new(heap, ROOM.pairs)?, ROOM)
-}
-
-fn in_chains(heap: Global) -> Result<Desk<CardChains>, AllocError> {
-    Desk::new(heap, CardChains::new(heap, ROOM.pairs)?, ROOM)
-}
-
 fn new_run(heap: Global, seed: u32, counts: Counts) -> Result<Run, AllocError> {
     Ok(Run {
-        ordered: in_order(heap)?,
-        chained: in_chains(heap)?,
+        ordered: Desk::new(heap, InOrder::new(heap, ROOM.pairs)?, ROOM, BLANK)?,
+        chained: Desk::new(heap, Chains::new(heap, ROOM.pairs)?, ROOM, BLANK)?,
         players: [AWAY; PLAYERS],
         draws: Draws { state: seed },
         record: Record::new(heap),
@@ -107,8 +83,7 @@ impl Run {
     // Makes the call of both stores, which say the same.
     fn perform(&mut self, rt: &impl Abort, call: Call<CardNumber, Score>) -> Said {
         let said = self.ordered.perform(call);
-        let other = self.chained.perform(call);
-        assert!(rt; same_said(said, other));
+        assert_eq!(rt; self.chained.perform(call), said);
         said
     }
 
@@ -126,10 +101,12 @@ impl Run {
         call: Call<CardNumber, Score>,
     ) -> Result<Player, AllocError> {
         let said = self.perform(rt, call);
-        self.counts.count(number_of(said));
-        if let Ok(answer) = said {
-            let told = self.told(rt, answer);
-            self.record.add(player.level, call, told)?;
+        match said {
+            Ok(answer) => {
+                let told = self.told(rt, answer);
+                self.record.add(player.level, call, told)?;
+            }
+            Err(refusal) => self.counts.count(refusal),
         }
         Ok(player.after(call, said))
     }
@@ -157,7 +134,7 @@ impl Run {
 
     // A run from an opening until all transactions are ended; it is disturbed before every tenth call or so.
     fn play_all(&mut self, rt: &impl Abort, calls: u32, disturbed: bool) -> Result<(), AllocError> {
-        assert_eq!(rt; number_of(self.perform(rt, Call::Open(0))), 0);
+        assert_eq!(rt; self.perform(rt, Call::Open(0)), Ok(Answer::Done));
         self.record.clear();
         self.players = [AWAY; PLAYERS];
         for _ in 0..calls {
@@ -172,13 +149,13 @@ impl Run {
 
     fn disturb(&mut self) {
         let trouble = self.draws.trouble();
-        self.ordered.disturb(trouble);
-        self.chained.disturb(trouble);
+        disturb(&mut self.ordered, trouble);
+        disturb(&mut self.chained, trouble);
     }
 
     fn leave_all(&mut self, rt: &impl Abort) {
-        for seat in 0..PLAYERS {
-            self.leave(rt, self.players[seat]);
+        for player in self.players {
+            self.leave(rt, player);
         }
     }
 
@@ -198,10 +175,7 @@ impl Run {
         let Ok(answer) = self.perform(rt, Call::Book(name, ALL_ROWS)) else {
             return Err(Fail::new("no rows"));
         };
-        let told = self.told(rt, answer);
-        let expected = book.tell(ALL_ROWS);
-        assert!(rt; same_answer(told.answer, expected.answer));
-        assert_eq!(rt; told.rows, expected.rows);
+        assert_eq!(rt; self.told(rt, answer), book.tell(ALL_ROWS));
         Ok(())
     }
 
@@ -230,7 +204,7 @@ fn play_one(rt: &impl Abort, run: &mut Run, disturbed: bool) -> Result<Counts, F
 
 #[test]
 fn beside_the_book(rt: HostRuntime) -> Result<(), Fail> {
-    let mut counts = NO_COUNTS;
+    let mut counts = Counts::default();
     for seed in 1..101u32 {
         counts = play_one(&rt, &mut new_run(rt.alloc(), seed, counts)?, false)?;
     }
@@ -241,7 +215,7 @@ fn beside_the_book(rt: HostRuntime) -> Result<(), Fail> {
 // Disturbed tables end no call but with an answer or a refusal, and once opened anew the store keeps the law again.
 #[test]
 fn disturbed_first(rt: HostRuntime) -> Result<(), Fail> {
-    let mut counts = NO_COUNTS;
+    let mut counts = Counts::default();
     for seed in 101..141u32 {
         counts = play_one(&rt, &mut new_run(rt.alloc(), seed, counts)?, true)?;
     }

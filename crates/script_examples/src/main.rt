@@ -13,7 +13,7 @@ const NAMES: [&str; 6] = [
     "faulty-line",
 ];
 
-fn as_expected(rt: &HostRuntime, name: &str) -> anyhow::Result<bool> {
+fn is_as_expected(rt: &HostRuntime, name: &str) -> anyhow::Result<bool> {
     let script = fs::read(rt, format!(in rt.alloc(); "{name}.script")?)?;
     let expected = fs::read(rt, format!(in rt.alloc(); "{name}.out")?)?;
     let said = run_script(rt.alloc(), script.as_slice())?;
@@ -22,7 +22,7 @@ fn as_expected(rt: &HostRuntime, name: &str) -> anyhow::Result<bool> {
 
 fn run(rt: &HostRuntime) -> anyhow::Result<()> {
     for name in NAMES {
-        let verdict = if as_expected(rt, name)? {
+        let verdict = if is_as_expected(rt, name)? {
             "as expected"
         } else {
             "differs"

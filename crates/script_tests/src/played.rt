@@ -1,6 +1,7 @@
 // A script beside what it is to print, put together from the entries of transcripts.
 use script::run_script;
 use std::alloc::Global;
+use std::fmt::Write;
 use std::process::Abort;
 use std::test::Fail;
 
@@ -45,9 +46,7 @@ impl Played {
             self.script.push('\n')?;
         }
         if !answer.is_empty() {
-            let line = self.line;
-            let told = format!(in self.heap; "{line},{answer}\n")?;
-            self.expected.push_str(told.as_str())?;
+            writeln!(self.expected, "{},{answer}", self.line)?;
         }
         Ok(())
     }
@@ -69,10 +68,10 @@ impl Played {
     }
 
     fn enter(&mut self, entry: &str) -> Result<(), Fail> {
-        match entry.split_once('|') {
-            Some((call, answer)) => self.add(call, answer),
-            None => Err(Fail::new("no answer")),
-        }
+        let Some((call, answer)) = entry.split_once('|') else {
+            return Err(Fail::new("no answer"));
+        };
+        self.add(call, answer)
     }
 
     pub fn play(&mut self, entries: &str) -> Result<(), Fail> {

@@ -14,6 +14,7 @@ use std::alloc::{AllocError, Global};
 use std::process::Abort;
 use std::test::Fail;
 
+// Handle, heap and script are lent to each function anew: a struct of them would only rename them.
 // Each case under both indexes.
 fn all(rt: &impl Abort, heap: Global, before: &str, cases: &str, end: &str) -> Result<(), Fail> {
     for entries in cases.split(end) {

@@ -4,11 +4,11 @@ use crate::script::{
     BACKWARD, BEGIN, DELETE_10, INSERT_10, INSERT_15, READ_10, READ_15, READ_20, SCAN, Step,
     UPDATE_10, UPDATE_20, play_both,
 };
+use desks::{ROOMY, Room};
 use keys::Score;
 use rules::{Answer, Call};
 use seeing::{Begin, End};
 use std::test::Fail;
-use trying::{ROOMY, Room};
 
 // The entry of 10 is free. The keys (6) come before that. In validation what was noted first counts: the version of 10 is
 // not there (7), or that of 20 is no longer visible (15).

@@ -1,10 +1,11 @@
 // Lengths of tables and the capacity of the index.
 use crate::script::{BEGIN, Step, play_both, play_numbered};
+use desks::{ROOMY, Room};
 use keys::{CardNumber, Score};
-use ordered::CardsInOrder;
+use ordered::InOrder;
 use rules::{BookCall, Call};
 use std::test::Fail;
-use trying::{Desk, ROOMY, Room};
+use trying::{BLANK, Desk, number_of};
 
 const ALL: usize = 65536;
 
@@ -25,18 +26,17 @@ const OPENINGS: [(usize, usize, usize, u8); 10] = [
 // The length comes before the opening stamp (2).
 #[test]
 fn openings(rt: HostRuntime) -> Result<(), Fail> {
-    for i in 0..10usize {
-        let (versions, notes, pairs, told) = OPENINGS[i];
+    for (i, (versions, notes, pairs, told)) in OPENINGS.iter().enumerate() {
         let room = Room {
-            versions,
-            notes,
+            versions: *versions,
+            notes: *notes,
             rows: 0,
-            pairs,
+            pairs: *pairs,
         };
-        let late = if told == 0 { 2 } else { told };
+        let late = if *told == 0 { 2 } else { *told };
         let script = [
             Step::Tell(Call::Open(18446744073709551615), late),
-            Step::Tell(Call::Open(0), told),
+            Step::Tell(Call::Open(0), *told),
         ];
         play_numbered(&rt, rt.alloc(), room, &script, i)?;
     }
@@ -75,12 +75,11 @@ const LENT: [(usize, u8); 5] = [(ALL + 1, 1), (7, 0), (0, 1), (ALL, 0), (1, 0)];
 #[test]
 fn other_capacities(rt: HostRuntime) -> Result<(), Fail> {
     let heap = rt.alloc();
-    let mut desk = Desk::new(heap, CardsInOrder::new(heap, 8)?, ROOMY)?;
-    assert_eq!(rt; desk.number(Call::Open(0)), 0);
-    for i in 0..5usize {
-        let (pairs, told) = LENT[i];
-        desk.index = CardsInOrder::new(heap, pairs)?;
-        assert_eq!(rt; desk.number(Call::Tally), told);
+    let mut desk = Desk::new(heap, InOrder::new(heap, 8)?, ROOMY, BLANK)?;
+    assert_eq!(rt; number_of(desk.perform(Call::Open(0))), 0);
+    for (pairs, told) in LENT {
+        desk.index = InOrder::new(heap, pairs)?;
+        assert_eq!(rt; number_of(desk.perform(Call::Tally)), told);
     }
     Ok(())
 }

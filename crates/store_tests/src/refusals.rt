@@ -3,10 +3,11 @@ use crate::script::{
     BACKWARD, BEGIN, DELETE_10, DELETE_15, INSERT_10, INSERT_15, READ_10, READ_15, READ_20, SCAN,
     Step, UPDATE_10, UPDATE_15, UPDATE_20, play_both,
 };
-use rules::{Answer, Call};
+use desks::{ROOMY, Room};
+use index::IndexFault;
+use rules::{Answer, Call, Refusal};
 use seeing::Level;
 use std::test::Fail;
-use trying::{ROOMY, Room};
 
 // No transaction of that name (3), though the keys are backward (6); one that is finished is not there either.
 // Then the phases (4): Active, Preparing, Validated, Committed, Aborted.
@@ -185,7 +186,10 @@ const FULL: [Step; 9] = [
     Step::Tell(BEGIN, 0),
     Step::Tell(Call::Book(4, UPDATE_10), 8),
     Step::Tell(Call::Book(3, INSERT_15), 12),
-    Step::Carry(Call::Book(3, INSERT_15), 3, 2),
+    Step::Refuse(
+        Call::Book(3, INSERT_15),
+        Refusal::Full(3, IndexFault { capacity: 2 }),
+    ),
 ];
 
 const LAST: u64 = 9223372036854775806;
@@ -230,6 +234,7 @@ fn aborted(rt: HostRuntime) -> Result<(), Fail> {
     play_both(&rt, rt.alloc(), ROOMY, &ABORTED)
 }
 
+// A test of its own as wrong_and_short is, so that its name says which table fell.
 #[test]
 fn tight(rt: HostRuntime) -> Result<(), Fail> {
     let room = Room {
@@ -281,10 +286,10 @@ const WAITING: [Step; 18] = [
     Step::Tell(Call::Book(7, SCAN), 0),
     Step::Tell(Call::Prepare(7), 0),
     Step::Tell(Call::Validate(7), 0),
-    Step::Carry(Call::Commit(7), 0, 2),
+    Step::Refuse(Call::Commit(7), Refusal::Waiting(2)),
     Step::Tell(Call::Validate(4), 0),
     Step::Tell(Call::Commit(4), 0),
-    Step::Carry(Call::Commit(7), 0, 1),
+    Step::Refuse(Call::Commit(7), Refusal::Waiting(1)),
     Step::Tell(Call::Validate(3), 0),
     Step::Tell(Call::Commit(3), 0),
     Step::Tell(Call::Commit(7), 0),

@@ -1,15 +1,16 @@
 // Scripts: calls, each with the refusal that it is to meet.
-use chains::CardChains;
+use chains::Chains;
+use desks::Room;
 use index::Index;
 use keys::{CardNumber, Score};
-use ordered::CardsInOrder;
+use ordered::InOrder;
 use rules::{Answer, BookCall, Call, Entry, Refusal};
 use seeing::{Begin, End, Level, Version};
 use std::alloc::Global;
 use std::fmt;
 use std::process::Abort;
 use std::test::Fail;
-use trying::{Desk, Room, Said, Trouble, same_answer};
+use trying::{BLANK, Desk, Trouble, disturb, number_of};
 
 pub const BEGIN: Call<CardNumber, Score> = Call::Begin(Level::Serializable);
 
@@ -37,9 +38,9 @@ pub const DELETE_10: BookCall<CardNumber, Score> = BookCall::Delete(CardNumber(1
 
 pub const DELETE_15: BookCall<CardNumber, Score> = BookCall::Delete(CardNumber(15));
 
-/// A line of a script. The store is opened anew and set up; a call gets that answer, or meets the refusal of that number
-/// (0 for none), once or so many times, or one that carries two numbers; every call but open is refused with 1;
-/// transaction 1 inserts so many rows.
+/// A line of a script. The store is opened anew and set up; a call gets that answer, or meets that refusal, or the one of
+/// that number (0 for none), once or so many times; every call but open is refused with 1; transaction 1 inserts so many
+/// rows.
 /// Tables are made longer or shorter. Or they are disturbed: the entry of a key is freed, two are swapped, one is
 /// overwritten; a pair is put that leads to that place, to the entry of another key, or to a free one; the pair of a key
 /// is removed.
@@ -49,7 +50,7 @@ pub enum Step {
     Says(Call<CardNumber, Score>, Answer<Score>),
     Tell(Call<CardNumber, Score>, u8),
     Often(u8, Call<CardNumber, Score>, u8),
-    Carry(Call<CardNumber, Score>, u64, usize),
+    Refuse(Call<CardNumber, Score>, Refusal),
     NoneAllowed,
     Fill(u32),
     MoreVersions,
@@ -90,9 +91,17 @@ impl fmt::Display for Spot {
     }
 }
 
-fn set_up<I: Index<Key = CardNumber> + Drop>(rt: &impl Abort, desk: &mut Desk<I>, spot: Spot) {
-    for call in SET_UP.iter() {
-        assert_eq!(rt; desk.number(*call), 0, "{spot}");
+// Each call meets the refusal of that number, 0 for none.
+// Handle, desk and spot are lent to each function anew: a struct of them would only rename them.
+fn tell_each<I: Index<Key = CardNumber> + Drop>(
+    rt: &impl Abort,
+    desk: &mut Desk<I>,
+    calls: &[Call<CardNumber, Score>],
+    told: u8,
+    spot: Spot,
+) {
+    for call in calls {
+        assert_eq!(rt; number_of(desk.perform(*call)), told, "{spot}");
     }
 }
 
@@ -105,16 +114,7 @@ fn tell_often<I: Index<Key = CardNumber> + Drop>(
     spot: Spot,
 ) {
     for _ in 0..times {
-        assert_eq!(rt; desk.number(call), told, "{spot}");
-    }
-}
-
-// A full index says whose call it was and how many pairs fit; one that waits says on how many.
-fn carries(said: Said, name: u64, number: usize) -> bool {
-    match said {
-        Err(Refusal::Full(transaction, fault)) => transaction == name && fault.capacity == number,
-        Err(Refusal::Waiting(waited_on)) => waited_on == number,
-        _ => false,
+        assert_eq!(rt; number_of(desk.perform(call)), told, "{spot}");
     }
 }
 
@@ -126,12 +126,10 @@ fn place_of<I: Index<Key = CardNumber> + Drop>(desk: &Desk<I>, key: u32) -> usiz
 }
 
 fn free_place<I: Index<Key = CardNumber> + Drop>(desk: &Desk<I>) -> usize {
-    for (place, entry) in desk.versions.iter().enumerate() {
-        if entry.get().is_none() {
-            return place;
-        }
-    }
-    usize::MAX
+    desk.versions
+        .iter()
+        .position(|entry| entry.get().is_none())
+        .unwrap_or(usize::MAX)
 }
 
 fn strange(key: u32, begin: Begin, end: End) -> Version<CardNumber, Score> {
@@ -160,12 +158,6 @@ fn trouble_of<I: Index<Key = CardNumber> + Drop>(desk: &Desk<I>, step: Step) -> 
     }
 }
 
-fn disturb<I: Index<Key = CardNumber> + Drop>(desk: &mut Desk<I>, step: Step) {
-    if let Some(trouble) = trouble_of(desk, step) {
-        desk.disturb(trouble);
-    }
-}
-
 // Every call but open; the transaction need not be there.
 const OTHERS: [Call<CardNumber, Score>; 13] = [
     BEGIN,
@@ -183,28 +175,16 @@ const OTHERS: [Call<CardNumber, Score>; 13] = [
     Call::Tally,
 ];
 
-fn refuse_all<I: Index<Key = CardNumber> + Drop>(rt: &impl Abort, desk: &mut Desk<I>, spot: Spot) {
-    for call in OTHERS.iter() {
-        assert_eq!(rt; desk.number(*call), 1, "{spot}");
-    }
-}
-
 fn fill<I: Index<Key = CardNumber> + Drop>(
     rt: &impl Abort,
     desk: &mut Desk<I>,
     number: u32,
     spot: Spot,
 ) {
+    // The number is the key, and no index.
     for key in 0..number {
         let call = Call::Book(1, BookCall::Insert(CardNumber(key), Score(1)));
-        assert_eq!(rt; desk.number(call), 0, "{spot}");
-    }
-}
-
-fn says(said: Said, answer: Answer<Score>) -> bool {
-    match said {
-        Ok(told) => same_answer(told, answer),
-        Err(_) => false,
+        assert_eq!(rt; number_of(desk.perform(call)), 0, "{spot}");
     }
 }
 
@@ -219,7 +199,11 @@ fn alter<I: Index<Key = CardNumber> + Drop>(desk: &mut Desk<I>, step: Step) -> R
         Step::FewerNotes => {
             let _ = desk.notes.pop();
         }
-        _ => disturb(desk, step),
+        _ => {
+            if let Some(trouble) = trouble_of(desk, step) {
+                disturb(desk, trouble);
+            }
+        }
     }
     Ok(())
 }
@@ -231,18 +215,18 @@ fn take<I: Index<Key = CardNumber> + Drop>(
     spot: Spot,
 ) -> Result<(), Fail> {
     match step {
-        Step::Fresh => set_up(rt, desk, spot),
+        Step::Fresh => tell_each(rt, desk, &SET_UP, 0, spot),
         Step::Says(call, answer) => {
-            assert!(rt; says(desk.perform(call), answer), "{spot}");
+            assert_eq!(rt; desk.perform(call), Ok(answer), "{spot}");
         }
         Step::Tell(call, told) => {
-            assert_eq!(rt; desk.number(call), told, "{spot}");
+            assert_eq!(rt; number_of(desk.perform(call)), told, "{spot}");
         }
         Step::Often(times, call, told) => tell_often(rt, desk, times, call, told, spot),
-        Step::Carry(call, name, number) => {
-            assert!(rt; carries(desk.perform(call), name, number), "{spot}");
+        Step::Refuse(call, refusal) => {
+            assert_eq!(rt; desk.perform(call), Err(refusal), "{spot}");
         }
-        Step::NoneAllowed => refuse_all(rt, desk, spot),
+        Step::NoneAllowed => tell_each(rt, desk, &OTHERS, 1, spot),
         Step::Fill(number) => fill(rt, desk, number, spot),
         _ => alter(desk, step)?,
     }
@@ -262,28 +246,6 @@ fn play<I: Index<Key = CardNumber> + Drop>(
     Ok(())
 }
 
-fn play_in_order(
-    rt: &impl Abort,
-    heap: Global,
-    room: Room,
-    lines: &[Step],
-    script: usize,
-) -> Result<(), Fail> {
-    let index = CardsInOrder::new(heap, room.pairs)?;
-    play(rt, &mut Desk::new(heap, index, room)?, lines, script)
-}
-
-fn play_in_chains(
-    rt: &impl Abort,
-    heap: Global,
-    room: Room,
-    lines: &[Step],
-    script: usize,
-) -> Result<(), Fail> {
-    let index = CardChains::new(heap, room.pairs)?;
-    play(rt, &mut Desk::new(heap, index, room)?, lines, script)
-}
-
 /// Plays a script over both indexes, one of several in a test, by its number there.
 pub fn play_numbered(
     rt: &impl Abort,
@@ -292,8 +254,20 @@ pub fn play_numbered(
     lines: &[Step],
     script: usize,
 ) -> Result<(), Fail> {
-    play_in_order(rt, heap, room, lines, script)?;
-    play_in_chains(rt, heap, room, lines, script)
+    let ordered = InOrder::new(heap, room.pairs)?;
+    let chained = Chains::new(heap, room.pairs)?;
+    play(
+        rt,
+        &mut Desk::new(heap, ordered, room, BLANK)?,
+        lines,
+        script,
+    )?;
+    play(
+        rt,
+        &mut Desk::new(heap, chained, room, BLANK)?,
+        lines,
+        script,
+    )
 }
 
 /// Plays a script over both indexes.

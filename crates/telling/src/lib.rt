@@ -2,13 +2,9 @@
 #![tactic(auto)]
 
 mod book;
-mod desk;
+mod teller;
 mod transcript;
-mod values;
-mod words;
 
 pub use book::Book;
-pub use desk::{Desk, print_rows};
+pub use teller::{Teller, print_rows};
 pub use transcript::{Asked, Transcript, Turn};
-pub use values::{Shown, Text};
-pub use words::{number_of, word_of};

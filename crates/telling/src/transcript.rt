@@ -1,5 +1,6 @@
 // What was asked and answered, by transaction.
-use rules::{Answer, BookCall, Call, Refusal};
+use desks::Said;
+use rules::{Answer, BookCall, Call};
 use std::alloc::{AllocError, Global};
 
 /// A call on rows that was not refused, the transaction that made it, and the answer.
@@ -34,30 +35,18 @@ impl<K: Copy + Drop, V: Copy + Drop> Transcript<K, V> {
     }
 
     /// Records a call and what the store said to it.
-    pub fn record(
-        &mut self,
-        call: Call<K, V>,
-        said: Result<Answer<V>, Refusal>,
-    ) -> Result<(), AllocError> {
-        let Ok(answer) = said else {
-            return Ok(());
-        };
-        match call {
-            Call::Book(name, call) => self.asked.push(Asked { name, call, answer })?,
-            Call::Prepare(name) => self.prepare(name, answer)?,
-            Call::Commit(name) => self.commit(name),
-            _ => (),
-        }
-        Ok(())
-    }
-
-    fn prepare(&mut self, name: u64, answer: Answer<V>) -> Result<(), AllocError> {
-        if let Answer::Stamp(end) = answer {
-            self.turns.push(Turn {
+    pub fn record(&mut self, call: Call<K, V>, said: Said<V>) -> Result<(), AllocError> {
+        match (call, said) {
+            (Call::Book(name, call), Ok(answer)) => {
+                self.asked.push(Asked { name, call, answer })?
+            }
+            (Call::Prepare(name), Ok(Answer::Stamp(end))) => self.turns.push(Turn {
                 name,
                 end,
                 committed: false,
-            })?;
+            })?,
+            (Call::Commit(name), Ok(_)) => self.commit(name),
+            _ => (),
         }
         Ok(())
     }
@@ -80,21 +69,10 @@ impl<K: Copy + Drop, V: Copy + Drop> Transcript<K, V> {
 
     /// The committed transaction with the lowest end stamp above the one given.
     pub fn next_turn(&self, after: u64) -> Option<Turn> {
-        let mut next = None;
-        for turn in self.turns.iter() {
-            next = earlier(after, next, *turn);
-        }
-        next
-    }
-}
-
-// The turn, if it was committed after that stamp and before the other.
-fn earlier(after: u64, other: Option<Turn>, turn: Turn) -> Option<Turn> {
-    if !turn.committed || turn.end <= after {
-        return other;
-    }
-    match other {
-        Some(found) if found.end <= turn.end => other,
-        _ => Some(turn),
+        self.turns
+            .iter()
+            .filter(|turn| turn.committed && turn.end > after)
+            .min_by_key(|turn| turn.end)
+            .copied()
     }
 }

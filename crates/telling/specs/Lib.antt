@@ -1,2 +1,0 @@
--- What is said of an answer.
-pub mod Words
