@@ -31,9 +31,9 @@ impl fmt::Display for Outcome {
 
     fn fmt<W: fmt::Write>(&self, f: &mut fmt::Formatter<W>) -> fmt::Result {
         match self.0 {
-            Ok(Answer::Done) => f.write_str("done"),
-            Ok(Answer::Present) => f.write_str("present"),
-            Ok(Answer::Absent) => f.write_str("absent"),
+            Ok(answer @ (Answer::Done | Answer::Present | Answer::Absent)) => {
+                f.write_str(answer.word())
+            }
             Ok(Answer::Value(Score(score))) => write!(f, "{score}"),
             Ok(Answer::Stamp(stamp)) => write!(f, "{stamp}"),
             Ok(Answer::Number(number)) => write!(f, "{number}"),
