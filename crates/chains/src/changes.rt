@@ -4,7 +4,7 @@ ghost use Rattle.std.specs.Prelude.{◌≡◌, ℕ, ◌-◌, ◌<◌, ◌≤◌,
 ghost use Rattle.chains.specs.Chained.{held, nexts, numbers, Wired};
 
 use crate::arena::{Arena, Link};
-use crate::steps::chain_of;
+use crate::steps::{chain_of, reset};
 use keys::Key;
 use std::alloc::{AllocError, Global};
 
@@ -28,7 +28,7 @@ impl<K: Key> Arena<K> {
         ensures wired { Wired (numbers K.Key.hashed (held self.new)) self.new }
     {
         self.links.clear();
-        self.heads.fill(0);
+        reset(&mut self.heads);
     }
 
     /// Adds the pair at the end, as the head of its chain.

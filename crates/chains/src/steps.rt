@@ -1,11 +1,19 @@
-// The steps of a walk.
-ghost use Rattle.std.specs.Prelude.{◌≡◌, if◌then◌else◌};
+// The steps of a walk, and of a clearing.
+ghost use Rattle.std.specs.Prelude.{◌≡◌, ℕ, ◌<◌, length, slice_index, if◌then◌else◌};
 ghost use Rattle.index.specs.Sets.{tie, reaches};
 ghost use Rattle.chains.specs.Chained.{bucket};
 ghost use Rattle.chains.specs.Best.{lower_of, nearer_of};
 
 use keys::Key;
 use std::cmp::Ordering;
+
+/// Ends each chain where it begins.
+pub(crate) fn reset(heads: &mut [usize; 256])
+    ensures zeros { (c : ℕ) → c < 256 → slice_index heads.new c ≡ 0 }
+    ensures fixed { length heads.new ≡ 256 }
+{
+    heads.fill(0);
+}
 
 /// The chain of a key.
 pub(crate) fn chain_of<K: Key>(key: K) -> usize
