@@ -1,7 +1,6 @@
 pub mod Lasts
 pub mod Links
 pub mod Walks
-pub mod Arenas
 pub mod Rows
 pub mod Bests
 pub mod Swaps

@@ -1,13 +1,12 @@
 -- Walks along a chain, by positions. Assumes nothing.
-use Rattle.std.proofs.Common.{◌≡◌, ℕ, suc, ◌-◌, ◌<◌, ◌≤◌, List, [], length, get_or, map, set, Ordering, sym, ap, ◌∙◌, subst, arith}
+use Rattle.std.proofs.Common.{◌≡◌, ℕ, suc, ◌-◌, ◌<◌, ◌≤◌, List, [], length, get_or, set, Ordering, sym, ap, ◌∙◌, subst, arith}
 use Rattle.std.specs.List.{IsDistinct}
-use Rattle.std.proofs.lemmas.List.{get_or-map, get_or-set_same, length-map, map-set, set-set}
+use Rattle.std.proofs.lemmas.List.{get_or_read, get_or-map, get_or-set_same, length-map, map-set, set-set}
 use Rattle.keys.specs.declared.Key.{Ghosts}
 use Rattle.index.specs.Sets.{tie}
 use Rattle.chains.specs.declared.arena.Arena.{Arena}
-use Rattle.chains.specs.declared.arena.Link.{Link}
 use Rattle.chains.specs.declared.chains.Chains.{Chains}
-use Rattle.chains.specs.Chained.{held, bucket, numbers, last_of, Right, Wired}
+use Rattle.chains.specs.Chained.{held, nexts, bucket, numbers, last_of, Right, Wired}
 use Rattle.chains.proofs.Lasts.{last_low, last_at}
 
 -- a walk along the chain c has come to the link at: 0, or one more than a position of the chain
@@ -23,44 +22,42 @@ on_last c cs n at l e =
       chain = λ h. let s : at ≡ suc (at - 1) = omega arith in last_at c cs n (at - 1) (sym e ∙ s);
     }
 
--- what is read of a link at a position
-pub next_read : {K : Type 0} (xs : List (Link K)) (i : ℕ) (l : Link K) → i < length xs → l ≡ get_or xs i l → l.next ≡ get_or (map (λ x. x.next) xs) i 0
-next_read xs i l lt e = ap (λ x. x.next) e ∙ sym (get_or-map (λ x. x.next) xs i l 0 lt)
+module _ {K : Type 0} {g : Ghosts K} (s : Arena K g) (cs : List ℕ) (w : Wired cs s) (c : ℕ) (small : c < 256) where
+  pub on_head : On c cs (get_or s.heads c 0)
+  on_head = on_last c cs (length cs) (get_or s.heads c 0) (omega arith) (w.heads c small)
 
-pub pair_read : {K : Type 0} (xs : List (Link K)) (i : ℕ) (l : Link K) → i < length xs → l ≡ get_or xs i l → (d : K × ℕ) → l.pair ≡ get_or (map (λ x. x.pair) xs) i d
-pair_read xs i l lt e d = ap (λ x. x.pair) e ∙ sym (get_or-map (λ x. x.pair) xs i l d lt)
+  module _ (at : ℕ) (on : On c cs at) (some : 0 < at) where
+    pub within : at - 1 < length (nexts s)
+    within = omega (arith, on.low, w.even)
 
-module _ {K : Type 0} {g : Ghosts K} (s : Arena K g) (cs : List ℕ) (w : Wired cs s) where
-  pub count : length s.links.items ≡ length cs
-  count = sym (length-map s.links.items (λ l. l.next)) ∙ w.even
+    module _ (next : ℕ) (read : next ≡ get_or (nexts s) (at - 1) next) where
+      pub next_is : next ≡ last_of c cs (at - 1)
+      next_is =
+          let e = on.chain some in
+          get_or_read (nexts s) (at - 1) next within read 0 ∙ w.links (at - 1) (omega arith) ∙ ap (λ d. last_of d cs (at - 1)) e
 
-  module _ (c : ℕ) (small : c < 256) where
-    pub on_head : On c cs (get_or s.heads c 0)
-    on_head = on_last c cs (length cs) (get_or s.heads c 0) (omega arith) (w.heads c small)
+      pub on_next : On c cs next
+      on_next = on_last c cs (at - 1) next (omega (arith, on.low)) next_is
 
-    module _ (at : ℕ) (on : On c cs at) (some : 0 < at) where
-      pub within : at - 1 < length s.links.items
-      within = omega (arith, on.low, count)
-
-      module _ (l : Link K) (read : l ≡ get_or s.links.items (at - 1) l) where
-        pub next_is : l.next ≡ last_of c cs (at - 1)
-        next_is =
-            let e = on.chain some in
-            next_read s.links.items (at - 1) l within read ∙ w.links (at - 1) (omega arith) ∙ ap (λ d. last_of d cs (at - 1)) e
-
-        pub on_next : On c cs l.next
-        on_next = on_last c cs (at - 1) l.next (omega (arith, on.low)) next_is
-
-        pub next_less : l.next < at
-        next_less = let e = next_is in let low = last_low c cs (at - 1) in omega arith
+      pub next_less : next < at
+      next_less = let e = next_is in let low = last_low c cs (at - 1) in omega arith
 
 -- what an index says of its arena
 pub wired : {K : Type 0} {g : Ghosts K} (s : Chains K g) → Wired (numbers g.hashed (held s.arena)) s.arena
 wired {g = g} s =
     let long = length-map (held s.arena) (λ x. bucket g.hashed x.0) in
-    let pairs = length-map s.arena.links.items (λ l. l.pair) in
-    let nexts = length-map s.arena.links.items (λ l. l.next) in
-    record { even = omega arith; fixed = s.arena.fixed; links = s.links; heads = s.heads }
+    record { even = omega (arith, s.arena.linked); fixed = s.arena.fixed; links = s.links; heads = s.heads }
+
+-- no pair, and each chain ends where it begins
+pub none_right : {K : Type 0} (h : K → ℕ) (xs : List (K × ℕ)) (ls hs : List ℕ) → xs ≡ [] → ls ≡ [] → length hs ≡ 256 → ((c : ℕ) → c < 256 → get_or hs c 0 ≡ 0) → Right (numbers h xs) ls hs
+none_right h xs ls hs e f long z =
+    subst (λ ys. Right (numbers h ys) ls hs) (sym e)
+    (record {
+      even = ap length f;
+      fixed = long;
+      links = λ j l. absurd (omega arith);
+      heads = z;
+    })
 
 -- no pair stands twice
 pub none_twice : {K : Type 0} (o : K → K → Ordering) (xs : List (K × ℕ)) → xs ≡ [] → IsDistinct (tie o) xs

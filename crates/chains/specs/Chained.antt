@@ -12,10 +12,10 @@ use Rattle.index.specs.Sets.{tie}
 use Rattle.chains.specs.declared.arena.Arena.{Arena}
 
 abbrev pub held : {K : Type 0} {g : Ghosts K} → Arena K g → List (K × ℕ)
-held s = map (λ l. l.pair) (vec_items s.links)
+held s = vec_items s.pairs
 
 abbrev pub nexts : {K : Type 0} {g : Ghosts K} → Arena K g → List ℕ
-nexts s = map (λ l. l.next) (vec_items s.links)
+nexts s = vec_items s.links
 
 abbrev pub bucket : {K : Type 0} → (K → ℕ) → K → ℕ
 bucket h k = h k % 256

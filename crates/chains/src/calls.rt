@@ -1,7 +1,6 @@
 // The calls of the index.
 ghost use Rattle.std.specs.Prelude.{◌≡◌, ◌≤◌};
-ghost use Rattle.std.proofs.Common.{◌∙◌, sym, subst};
-ghost use Rattle.std.proofs.lemmas.List.{length-map};
+ghost use Rattle.std.proofs.Common.{subst};
 ghost use Rattle.chains.specs.Chained.{held};
 
 use crate::chains::Chains;
@@ -18,7 +17,7 @@ impl<K: Key> Index for Chains<K> {
 
     ghost distinct = { λ s. s.once };
 
-    ghost within = { λ s. subst (λ n. n ≤ s.arena.limit) (s.arena.links.ok.0 ∙ sym (length-map s.arena.links.items (λ l. l.pair))) s.arena.few };
+    ghost within = { λ s. subst (λ n. n ≤ s.arena.limit) s.arena.pairs.ok.0 s.arena.few };
 
     fn capacity(&self) -> usize {
         self.arena.limit
@@ -29,7 +28,7 @@ impl<K: Key> Index for Chains<K> {
             return Ok(Put::Present);
         }
         let capacity = self.capacity();
-        if self.arena.links.len() >= capacity {
+        if self.arena.pairs.len() >= capacity {
             return Err(IndexFault { capacity });
         }
         self.arena.append(key, place);
@@ -42,7 +41,7 @@ impl<K: Key> Index for Chains<K> {
             return false;
         };
         let last = self.arena.pop_last();
-        if at < self.arena.links.len() {
+        if at < self.arena.pairs.len() {
             self.arena.replace(at, last);
         }
         true
@@ -53,17 +52,16 @@ impl<K: Key> Index for Chains<K> {
         let mut best = None;
         let mut at = self.arena.heads[chain_of(key)];
         while at > 0 {
-            let link = &self.arena.links[at - 1];
-            best = better(best, key, from, &link.pair);
-            at = link.next;
+            best = better(best, key, from, &self.arena.pairs[at - 1]);
+            at = self.arena.links[at - 1];
         }
         best
     }
 
     fn next_key(&self, key: K, strictly: bool) -> Option<K> {
         let mut best = None;
-        for link in &self.arena.links {
-            best = nearer(best, key, strictly, link.pair.0);
+        for pair in &self.arena.pairs {
+            best = nearer(best, key, strictly, pair.0);
         }
         best
     }

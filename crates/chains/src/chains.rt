@@ -35,11 +35,10 @@ impl<K: Key> Chains<K> {
         // Along the links by hand, here, in next_place and in above: what an iterator of links yields would have to be tied to
         // the chain anew, and the loop says it in one line.
         while at > 0 {
-            let link = &self.arena.links[at - 1];
-            if is_pair(&link.pair, key, place) {
+            if is_pair(&self.arena.pairs[at - 1], key, place) {
                 return Some(at - 1);
             }
-            at = link.next;
+            at = self.arena.links[at - 1];
         }
         None
     }

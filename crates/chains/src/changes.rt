@@ -3,7 +3,7 @@
 ghost use Rattle.std.specs.Prelude.{◌≡◌, ℕ, ◌-◌, ◌<◌, ◌≤◌, List, [], ◌∷◌, ◌++◌, length, take, IfOk, slice_index, slice_index_or, slice_set};
 ghost use Rattle.chains.specs.Chained.{held, nexts, numbers, Wired};
 
-use crate::arena::{Arena, Link};
+use crate::arena::Arena;
 use crate::steps::{chain_of, reset};
 use keys::Key;
 use std::alloc::{AllocError, Global};
@@ -13,8 +13,10 @@ impl<K: Key> Arena<K> {
     pub(crate) fn new(heap: Global, limit: usize) -> Result<Arena<K>, AllocError>
         ensures { IfOk result (λ s. (held s ≡ []) × (s.limit ≡ limit) × Wired (numbers K.Key.hashed (held s)) s) }
     {
+        let pairs = Vec::with_capacity(heap, limit)?;
         let links = Vec::with_capacity(heap, limit)?;
         Ok(Arena {
+            pairs,
             links,
             heads: [0; 256],
             limit,
@@ -27,6 +29,7 @@ impl<K: Key> Arena<K> {
         ensures limit { self.new.limit ≡ self.old.limit }
         ensures wired { Wired (numbers K.Key.hashed (held self.new)) self.new }
     {
+        self.pairs.clear();
         self.links.clear();
         reset(&mut self.heads);
     }
@@ -40,12 +43,9 @@ impl<K: Key> Arena<K> {
         ensures wired { Wired (numbers K.Key.hashed (held self.new)) self.new }
     {
         let chain = chain_of(key);
-        let next = self.heads[chain];
-        self.links.push_reserved(Link {
-            pair: (key, place),
-            next,
-        });
-        self.heads[chain] = self.links.len();
+        self.links.push_reserved(self.heads[chain]);
+        self.pairs.push_reserved((key, place));
+        self.heads[chain] = self.pairs.len();
     }
 
     /// Takes the last pair off. It is the head of its chain.
@@ -57,9 +57,10 @@ impl<K: Key> Arena<K> {
         ensures limit { self.new.limit ≡ self.old.limit }
         ensures wired { Wired (numbers K.Key.hashed (held self.new)) self.new }
     {
-        let last = self.links.len() - 1;
-        let Link { pair, next } = self.links[last];
-        self.heads[chain_of(pair.0)] = next;
+        let last = self.pairs.len() - 1;
+        let pair = self.pairs[last];
+        self.heads[chain_of(pair.0)] = self.links[last];
+        self.pairs.truncate(last);
         self.links.truncate(last);
         pair
     }
@@ -77,7 +78,7 @@ impl<K: Key> Arena<K> {
         // Along the links, as in find; it ends at a link, not at a pair.
         let mut at = self.heads[chain];
         loop {
-            let next = self.links[at - 1].next;
+            let next = self.links[at - 1];
             if next <= bound {
                 return at - 1;
             }
@@ -93,13 +94,13 @@ impl<K: Key> Arena<K> {
         ensures limit { self.new.limit ≡ self.old.limit }
         ensures wired { Wired (slice_set (numbers K.Key.hashed (held self.new)) at 256) self.new }
     {
-        let Link { pair, next } = self.links[at];
-        let chain = chain_of(pair.0);
+        let chain = chain_of(self.pairs[at].0);
+        let next = self.links[at];
         if self.heads[chain] == at + 1 {
             self.heads[chain] = next;
         } else {
             let before = self.above(chain, at + 1);
-            self.links[before].next = next;
+            self.links[before] = next;
         }
     }
 
@@ -111,16 +112,16 @@ impl<K: Key> Arena<K> {
         ensures limit { self.new.limit ≡ self.old.limit }
         ensures wired { Wired (numbers K.Key.hashed (held self.new)) self.new }
     {
+        self.pairs[at] = pair;
         let chain = chain_of(pair.0);
         let head = self.heads[chain];
         if head <= at {
-            self.links[at] = Link { pair, next: head };
+            self.links[at] = head;
             self.heads[chain] = at + 1;
         } else {
             let before = self.above(chain, at);
-            let next = self.links[before].next;
-            self.links[at] = Link { pair, next };
-            self.links[before].next = at + 1;
+            self.links[at] = self.links[before];
+            self.links[before] = at + 1;
         }
     }
 

@@ -8,8 +8,8 @@ loop-chain-init g c = (λ cs w. on_head c.args.self.now cs w c.args.chain c.requ
 pub loop-chain-smaller : goal.loop-chain-smaller
 loop-chain-smaller g c =
     let w = c.requires.wired in
-    next_less c.args.self.now w.0 w.1 c.args.chain c.requires.chain c.loop-chain.at (c.loop-chain.invariant.0 w.0 w.1) (omega arith) c.index.result.now c.index.ensures
+    next_less c.args.self.now w.0 w.1 c.args.chain c.requires.chain c.loop-chain.at (c.loop-chain.invariant.0 w.0 w.1) (omega arith) c.index-next.result.now c.index-next.ensures
 
 pub loop-chain-preserved : goal.loop-chain-preserved
 loop-chain-preserved g c =
-    (λ cs w. on_next c.args.self.now cs w c.args.chain c.requires.chain c.loop-chain.at (c.loop-chain.invariant.0 cs w) (omega arith) c.index.result.now c.index.ensures, c.if-next-bound.false)
+    (λ cs w. on_next c.args.self.now cs w c.args.chain c.requires.chain c.loop-chain.at (c.loop-chain.invariant.0 cs w) (omega arith) c.index-next.result.now c.index-next.ensures, c.if-next-bound.false)

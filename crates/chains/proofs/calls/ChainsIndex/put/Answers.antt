@@ -1,6 +1,6 @@
 use Rattle.std.proofs.Common.{ℕ, length, sym, refl, ap, ◌∙◌, subst, arith}
 use Rattle.std.specs.List.{IsDistinct}
-use Rattle.std.proofs.lemmas.List.{length_push, length-map}
+use Rattle.std.proofs.lemmas.List.{length_push}
 use Rattle.index.specs.Sets.{tie, holds}
 use Rattle.chains.specs.Chained.{held}
 use Rattle.chains.proofs.Rows.{held_found}
@@ -31,5 +31,4 @@ returns-clause-says g c =
     let xs = held c.args.self.now.arena in
     let q : g.row.K.Denot × ℕ = (c.args.key, c.args.place) in
     let miss = held_found o g.K.Key.laws.total xs q c.find.result c.find.ensures ∙ sym c.is_some.ensures ∙ c.if-is_some.false in
-    let long = length-map c.args.self.now.arena.links.items (λ x. x.pair) in
     (miss, omega arith, ap (holds o) c.append.ensures.pairs ∙ holds_push o g.K.Key.laws.total xs q, ap length c.append.ensures.pairs ∙ length_push xs q)

@@ -1,6 +1,6 @@
 use Rattle.std.proofs.Common.{◌≡◌, ℕ, suc, ◌-◌, ◌<◌, length, get_or, take, set, sym, ap, ◌∙◌, subst, arith}
 use Rattle.std.specs.List.{IsDistinct}
-use Rattle.std.proofs.lemmas.List.{length-set, length-take-le, length-map, get_or_read}
+use Rattle.std.proofs.lemmas.List.{length-set, length-take-le, get_or_read}
 use Rattle.index.specs.Sets.{tie, holds}
 use Rattle.chains.specs.Chained.{held}
 use Rattle.chains.proofs.Rows.{holds_at}
@@ -21,7 +21,6 @@ invariant_of-self-then-at-len g c =
     let long : length xs ≡ suc m = omega arith in
     let short = length-take-le m xs (omega arith) in
     let cut = ap length c.pop_last-last.ensures.pairs in
-    let pairs = length-map c.pop_last-last.new.self.links.items (λ x. x.pair) in
     let low : i < m = omega (arith, c.if-at-len.true) in
     let is : held c.replace.new.self ≡ set (take m xs) i w = c.replace.ensures.pairs ∙ ap (λ ys. set ys i w) c.pop_last-last.ensures.pairs in
     let r = c.replace.ensures.wired in
@@ -61,7 +60,6 @@ returns-then-at-len-clause-says g c =
     let long : length xs ≡ suc m = omega arith in
     let short = length-take-le m xs (omega arith) in
     let cut = ap length c.pop_last-last.ensures.pairs in
-    let pairs = length-map c.pop_last-last.new.self.links.items (λ x. x.pair) in
     let low : i < m = omega (arith, c.if-at-len.true) in
     let is : held c.replace.new.self ≡ set (take m xs) i w = c.replace.ensures.pairs ∙ ap (λ ys. set ys i w) c.pop_last-last.ensures.pairs in
     let count = ap length is ∙ length-set (take m xs) i w in
@@ -81,7 +79,6 @@ returns-else-at-len-clause-says g c =
     let long : length xs ≡ suc m = omega arith in
     let short = length-take-le m xs (omega arith) in
     let cut = ap length c.pop_last-last.ensures.pairs in
-    let pairs = length-map c.pop_last-last.new.self.links.items (λ x. x.pair) in
     let here : i ≡ m = omega (arith, c.if-at-len.false) in
     let in_row : m < length xs = omega arith in
     let at-m = f.1 ∙ ap (λ n. get_or xs n q) here in
