@@ -1,5 +1,5 @@
 -- An update or a delete, exit by exit. Assumes nothing.
-use Rattle.std.proofs.Common.{◌≡◌, ℕ, Bool, true, false, cond, List, length, set, Some, None, Ok, Err, Option, Ordering, sym, refl, ap, ◌∙◌}
+use Rattle.std.proofs.Common.{◌≡◌, ℕ, Bool, true, false, cond, List, length, set, Some, None, Ok, Err, Option, Ordering, sym, refl, ap, ◌∙◌, arith}
 use Rattle.seeing.specs.declared.End.TheVariants as end
 use Rattle.rules.specs.declared.Entry.{Entry}
 use Rattle.rules.specs.declared.Store.{Store}
@@ -28,6 +28,25 @@ use Rattle.data_calls.specs.Calling.{world, picked, AnswersFrom, approached, con
 use Rattle.tables.specs.Steps.{Gives}
 use Rattle.tables.proofs.Steps.{go_on, give_up, left_as_found}
 use Rattle.data_calls.proofs.Shapes.{ruled, answers_by, came, conclude_ends, conclude_done, unapproached, goes_on, found_slot}
+
+-- what the test of a change says: the version is the transaction's own, or it is locked
+abbrev tested : Bool → Bool → Checked Bool
+tested a b = cond a (Ok true) (cond b (Err refusal.Conflict) (Ok false))
+
+pub is_own : (a b p : Bool) → p ≡ true → Ok p ≡ tested a b → true ≡ a
+is_own true b p t e = refl
+is_own false true p t e = let z : ◌≡◌ {A = ℕ} 0 1 = cc in absurd (omega arith)
+is_own false false p t e = let z : ◌≡◌ {A = ℕ} 0 1 = cc in absurd (omega arith)
+
+pub is_locked : (a b : Bool) (r : Refusal) → Err r ≡ tested a b → (false ≡ a) × (true ≡ b) × (r ≡ refusal.Conflict)
+is_locked true b r e = let z : ◌≡◌ {A = ℕ} 0 1 = cc in absurd (omega arith)
+is_locked false true r e = (refl, refl, cc)
+is_locked false false r e = let z : ◌≡◌ {A = ℕ} 0 1 = cc in absurd (omega arith)
+
+pub is_free : (a b p : Bool) → p ≡ false → Ok p ≡ tested a b → (false ≡ a) × (false ≡ b)
+is_free true b p t e = let z : ◌≡◌ {A = ℕ} 0 1 = cc in absurd (omega arith)
+is_free false true p t e = let z : ◌≡◌ {A = ℕ} 0 1 = cc in absurd (omega arith)
+is_free false false p t e = (refl, refl)
 
 rule_of : {K V : Type 0} (o : K → K → Ordering) (c : Choice) (w : World K V) (n : ℕ) (k : K) (new : Option V) → book_rule o c w n (call_of k new) ≡ alter_rule o c w n k new
 rule_of o c w n k None = refl
@@ -102,9 +121,9 @@ module _ {K V : Type 0} (o : K → K → Ordering) (vh nh : ℕ) (rows : List (R
           answers_by o vh nh before n (call_of k new) (Err r) (goes_other false (sym f) (sym f') ∙ give_up _ a) (world s vs' ns rows i') (Err r)
           (left_as_found before refl ∙ (λ j. (world s (sym same j).0 ns rows (sym same j).1, Err r)))
 
-      pub done : (s' : Store) (vs₁ vs' : List (Entry (Version K V))) (i' : Index K) → false ≡ made_by n z.1 → false ≡ not_writable s.slots z.1.end → adds ≡ Ok (vs₁, i') →
-          vs' ≡ set vs₁ z.0 (filled (with_end (end.Owner n) z.1)) → s' ≡ with_slots s (set s.slots slot (Some (answered t.made y.waits t))) → AnswersFrom o vh nh before (world s' vs' ns rows i') n (call_of k new) (Ok answer.Done)
-      done s' vs₁ vs' i' f f' a ex es =
+      pub done : (v : Version K V) (s' : Store) (vs₁ vs' : List (Entry (Version K V))) (i' : Index K) → false ≡ made_by n z.1 → false ≡ not_writable s.slots z.1.end → adds ≡ Ok (vs₁, i') →
+          v ≡ with_end (end.Owner n) z.1 → vs' ≡ set vs₁ z.0 (filled v) → s' ≡ with_slots s (set s.slots slot (Some (answered t.made y.waits t))) → AnswersFrom o vh nh before (world s' vs' ns rows i') n (call_of k new) (Ok answer.Done)
+      done v s' vs₁ vs' i' f f' a ev ex es =
           came o vh nh before n (call_of k new) _ (goes_other false (sym f) (sym f') ∙ go_on _ a) (world s' vs' ns rows i') (Ok answer.Done)
           (conclude_done rows s (set vs₁ z.0 (filled (with_end (end.Owner n) z.1))) ns i' (pick nh ns) (pick vh vs) n slot t y.waits answer.Done slot_is
-          ∙ (λ j. Ok (world (sym es j) (sym ex j) ns rows i', Ok answer.Done)))
+          ∙ (let p = sym (ex ∙ ap (λ (q : Version K V). set vs₁ z.0 (filled q)) ev) in λ j. Ok (world (sym es j) (p j) ns rows i', Ok answer.Done)))

@@ -1,5 +1,5 @@
 -- An insert, exit by exit. Assumes nothing.
-use Rattle.std.proofs.Common.{◌≡◌, ℕ, Bool, true, false, cond, List, length, set, Some, None, Ok, Err, Option, Ordering, sym, refl, ap, ◌∙◌}
+use Rattle.std.proofs.Common.{◌≡◌, ℕ, Bool, true, false, cond, List, length, set, is_some, Some, None, Ok, Err, Option, Ordering, sym, refl, ap, ◌∙◌, arith}
 use Rattle.rules.specs.declared.Entry.{Entry}
 use Rattle.rules.specs.declared.Store.{Store}
 use Rattle.seeing.specs.declared.Version.{Version}
@@ -26,6 +26,26 @@ use Rattle.data_calls.specs.Calling.{world, picked, AnswersFrom, approached, con
 use Rattle.tables.specs.Steps.{Gives}
 use Rattle.tables.proofs.Steps.{go_on, give_up, left_as_found}
 use Rattle.data_calls.proofs.Shapes.{answers_by, came, conclude_ends, conclude_done, unapproached, goes_on, found_slot}
+
+-- what the test of an insert says of the version seen, and of one too new
+module _ {K V : Type 0} where
+  abbrev tested : Option (Met K V) → Bool → Checked Bool
+  tested q b = cond (is_some q) (Ok true) (cond b (Err refusal.Conflict) (Ok false))
+
+  pub sees : (q : Option (Met K V)) (b p : Bool) → p ≡ true → Ok p ≡ tested q b → (z : Met K V) × (q ≡ Some z)
+  sees (Some z) b p t e = (z, refl)
+  sees None true p t e = let z : ◌≡◌ {A = ℕ} 0 1 = cc in absurd (omega arith)
+  sees None false p t e = let z : ◌≡◌ {A = ℕ} 0 1 = cc in absurd (omega arith)
+
+  pub stands_against : (q : Option (Met K V)) (b : Bool) (r : Refusal) → Err r ≡ tested q b → (q ≡ None) × (b ≡ true) × (r ≡ refusal.Conflict)
+  stands_against (Some z) b r e = let z : ◌≡◌ {A = ℕ} 0 1 = cc in absurd (omega arith)
+  stands_against None true r e = (refl, refl, cc)
+  stands_against None false r e = let z : ◌≡◌ {A = ℕ} 0 1 = cc in absurd (omega arith)
+
+  pub is_free : (q : Option (Met K V)) (b p : Bool) → p ≡ false → Ok p ≡ tested q b → (q ≡ None) × (b ≡ false)
+  is_free (Some z) b p t e = let z : ◌≡◌ {A = ℕ} 0 1 = cc in absurd (omega arith)
+  is_free None true p t e = let z : ◌≡◌ {A = ℕ} 0 1 = cc in absurd (omega arith)
+  is_free None false p t e = (refl, refl)
 
 module _ {K V : Type 0} (o : K → K → Ordering) (vh nh : ℕ) (rows : List (Row K V)) (s : Store) (vs : List (Entry (Version K V))) (ns : List (Entry (Note K))) (xs : List (K × ℕ)) (limit n : ℕ) (k : K) (x : V) where
   abbrev before : World K V
