@@ -1,12 +1,13 @@
--- Arrays of 64 made by `from_fn`. Assumes nothing.
-use Rattle.std.proofs.Common.{◌≡◌, ℕ, zero, suc, ◌+◌, ◌<◌, ◌≤◌, Bool, false, ◌&&◌, ◌||◌, List, [], ◌∷◌, map, length, get_or, sym, subst, refl, ap, ◌∙◌, ⊎_elim, add-one, arith}
+-- Arrays of 64, made by `from_fn` or filled by index. Assumes nothing.
+use Rattle.std.proofs.Common.{◌≡◌, ℕ, zero, suc, ◌+◌, ◌<◌, ◌≤◌, Bool, false, ◌&&◌, ◌||◌, List, [], ◌∷◌, ◌++◌, map, length, get_or, take, drop, set, take_all, sym, subst, refl, ap, ◌∙◌, ⊎_elim, add-one, arith}
 use Rattle.std.specs.List.{range_with_len, list_any, zip}
 use Rattle.rules.specs.Lists.{some_below}
 use Rattle.seeing.specs.Slots.{Slots}
 use Rattle.rules.specs.Aborting.{spread, spread_for}
 use Rattle.std.specs.Fn.{Mut, Called}
-use Rattle.std.specs.Array.{IsFromFnResult, IsFromFnResultFrom, IsMapOf, MapsFrom}
-use Rattle.std.proofs.lemmas.List.{ext_get_or, length-map, get_or-map}
+use Rattle.std.specs.Array.{IsFromFnResult, IsFromFnResultFrom}
+use Rattle.std.proofs.lemmas.List.{drop_all, append-nil}
+use Rattle.std.proofs.lemmas.List.Edits.{map_over_more}
 use Rattle.std.proofs.lemmas.List.FromFn.{fill_by_all}
 use Rattle.std.proofs.lemmas.Bool.{cases_eq}
 use Rattle.std.proofs.Math.Bool.{or_assoc, or_comm}
@@ -25,19 +26,13 @@ module _ {F X : Type 0} (g : Mut F (ℕ × Unit {0}) X) (h : ℕ → X) (f : F) 
   pub from_fn_all : (ys : List X) (n : ℕ) (d : X) → IsFromFnResult g f ys n → ys ≡ map h (range_with_len 0 n)
   from_fn_all ys n d made = fill_by_all h ys n d made.long (λ k l. from_there ys 0 n f refl made.each k d (omega arith) (omega arith))
 
--- the same of an array's `map`: each call gives h of the item
-module _ {F A X : Type 0} (g : Mut F (A × Unit {0}) X) (h : A → X) (f : F) (gives : (x : A) (y : X) (q : F) → Called g f (x, tt) y q → (q ≡ f) × (y ≡ h x)) where
-  mapped_from : (xs : List A) (ys : List X) (i n : ℕ) (p : F) → p ≡ f → MapsFrom g p xs ys i n → (k : ℕ) (d : A) (e : X) → i ≤ k → k < i + n → get_or ys k e ≡ h (get_or xs k d)
-  mapped_from xs ys i zero p same made k d e a b = absurd (omega arith)
-  mapped_from xs ys i (suc n) p same made k d e a b =
-      let one = gives made.1 made.2 made.0 (subst (λ (q : F). Called g q (made.1, tt) made.2 made.0) same made.5) in
-      ⊎_elim
-      (λ (z : k ≡ i). ap (λ (j : ℕ). get_or ys j e) z ∙ made.4.1 e ∙ one.1 ∙ ap h (sym (made.3.1 d)) ∙ ap (λ (j : ℕ). h (get_or xs j d)) (sym z))
-      (λ (z : k ≡ i → ⊥). mapped_from xs ys (i + 1) n made.0 one.0 made.6 k d e (omega arith) (omega arith))
-      (cases_eq k i)
+-- an array whose items a loop changes one by one
+module _ {A : Type 0} (f : A → A) (xs : List A) (i : ℕ) where
+  pub mapped_more : (ys : List A) (x y : A) → i < length xs → ys ≡ map f (take i xs) ++ drop i xs → x ≡ get_or ys i x → y ≡ f x → set ys i y ≡ map f (take (i + 1) xs) ++ drop (i + 1) xs
+  mapped_more ys x y h inv at e = ap (λ (z : A). set ys i z) e ∙ map_over_more f xs ys i x h inv at
 
-  pub map_all : (xs : List A) (ys : List X) (n : ℕ) (d : A) → length xs ≡ n → IsMapOf g f xs ys n → ys ≡ map h xs
-  map_all xs ys n d long made = ext_get_or (h d) ys (map h xs) (made.long ∙ sym (length-map xs h ∙ long)) (λ k l. mapped_from xs ys 0 n f refl made.each k d (h d) (omega arith) (omega (arith, made.long)) ∙ sym (get_or-map h xs k d (h d) (omega (arith, made.long))))
+  pub mapped_all : (ys : List A) → length xs ≤ i → ys ≡ map f (take i xs) ++ drop i xs → ys ≡ map f xs
+  mapped_all ys h inv = inv ∙ (λ j. map f (take_all i xs h j) ++ drop_all i xs h j) ∙ append-nil (map f xs)
 
 -- the lowest number first
 some_lowest : (f : ℕ → Bool) (n : ℕ) → some_below f (suc n) ≡ (f 0 || some_below (λ i. f (suc i)) n)

@@ -9,40 +9,51 @@ ghost use Rattle.slots.specs.Seats.{is_after};
 
 use seeing::{End, Slots, Transaction, find};
 
+fn is_taken(slot: &Option<Transaction>) -> bool
+    ensures { result ≡ is_some slot.now }
+{
+    slot.is_some()
+}
+
 /// The lowest free slot, where a new transaction is seated; none if all are taken.
 pub fn free_slot(slots: &Slots) -> Option<usize>
     ensures seats { MatchOption result (all is_some slots.now ≡ true) (λ p. (all is_some slots.now ≡ false) × ((t : Transaction) → seat t slots.now ≡ slice_set slots.now p (Some t))) }
     ensures inside { IfSome result (λ p. p < 64) }
 {
-    slots.iter().position(|slot| slot.is_none())
+    slots.iter().position(|slot| !is_taken(slot))
 }
 
-// The transaction, waiting no more on the one in the slot. That the slot is below 64 is a clause: `find` promises it of a number.
-fn without_wait(t: Transaction, slot: usize) -> Transaction
+// What stands in a slot, waiting no more on the one in `slot`. That this is below 64 is a clause: `find` promises it of a number.
+fn without_wait(waiting: Option<Transaction>, slot: usize) -> Option<Transaction>
     requires { slot < 64 }
-    ensures { result ≡ with_waits (slice_set t.waits slot false) t }
+    ensures { result ≡ option_map (λ u. with_waits (slice_set u.waits slot false) u) waiting }
 {
+    let t = waiting?;
     let mut waits = t.waits;
     waits[slot] = false;
-    Transaction { waits, ..t }
+    Some(Transaction { waits, ..t })
 }
 
 // Nobody waits on the one in the slot.
-fn release_slot(slots: Slots, slot: usize) -> Slots
+// By index: the array's own `map` and `from_fn` write the whole array several times, and more than doubled the time of a commit.
+#[tactic(auto, using(crate::proofs::Filled::mapped_all))]
+fn release_slot(slots: &mut Slots, slot: usize)
     requires { slot < 64 }
-    ensures { result ≡ map (option_map (λ u. with_waits (slice_set u.waits slot false) u)) slots }
+    ensures { slots.new ≡ map (option_map (λ u. with_waits (slice_set u.waits slot false) u)) slots.old }
 {
-    slots.map(|waiting| waiting.map(|t| without_wait(t, slot)))
+    for i in 0..64 {
+        slots[i] = without_wait(slots[i], slot);
+    }
 }
 
 /// Nobody waits on the one named.
-pub fn release(slots: Slots, name: u64) -> Slots
+pub fn release(mut slots: Slots, name: u64) -> Slots
     ensures { result ≡ release name slots }
 {
-    let Some((slot, _)) = find(&slots, name) else {
-        return slots;
-    };
-    release_slot(slots, slot)
+    if let Some((slot, _)) = find(&slots, name) {
+        release_slot(&mut slots, slot);
+    }
+    slots
 }
 
 // The slot is free, or its transaction began after the stamp.
