@@ -76,7 +76,13 @@ pub(crate) fn nearer<K: Key>(best: Option<K>, key: K, strictly: bool, other: K) 
         return best;
     }
     match best {
-        Some(b) if !other.compare(&b).is_lt() => Some(b),
-        _ => Some(other),
+        Some(b) => {
+            if other.compare(&b).is_lt() {
+                Some(other)
+            } else {
+                Some(b)
+            }
+        }
+        None => Some(other),
     }
 }
