@@ -12,7 +12,7 @@ use Rattle.index.specs.declared.Put.TheVariants.{Added}
 use Rattle.index.specs.Answers.{PutSays, RemoveSays}
 use Rattle.index.specs.Sets.{pair_order, holds}
 use Rattle.index.proofs.Pairs.{pair_total, same_pair, turned, lt_tie, gt_tie}
-use Rattle.ordered.proofs.Rows.{holds_at, holds_none, holds_put, holds_cut, sorted_put, sorted_cut}
+use Rattle.ordered.proofs.Rows.{holds_at, holds_none, holds_put, holds_cut, sorted_between, sorted_cut}
 
 module _ {K : Type 0} (o : K → K → Ordering) (laws : TotalOrder o) (xs : List (K × ℕ)) (q : K × ℕ) (i : ℕ) where
   module _ (h : i < length xs) (f : HoldsAt (λ y. pair_order o y q ≡ Equal) xs i) where
@@ -52,4 +52,4 @@ module _ {K : Type 0} (o : K → K → Ordering) (laws : TotalOrder o) (xs : Lis
       put_says n l = (lacking, l, ap (holds o) e ∙ holds_put o laws i xs q, ap length e ∙ length-insert xs i q h)
 
       pub put_sorted : IsStrictlySortedBy (pair_order o) ys
-      put_sorted = subst (IsStrictlySortedBy (pair_order o)) (sym e) (sorted_put o laws q i xs s (λ j l m. parted.0 j q (omega arith) l) above)
+      put_sorted = subst (IsStrictlySortedBy (pair_order o)) (sym e) (sorted_between o laws q i xs s (λ j l m. parted.0 j q (omega arith) l) above)

@@ -1,14 +1,16 @@
 -- What a list of pairs in order holds, with one pair more, and with one less. Assumes nothing.
-use Rattle.std.proofs.Common.{◌≡◌, ℕ, zero, suc, ◌<◌, ◌≤◌, Bool, true, false, not, ◌&&◌, ◌||◌, List, [], ◌∷◌, length, get_or, Ordering, Less, sym, refl, ap, ◌∙◌, subst, arith}
+use Rattle.std.proofs.Common.{◌≡◌, ℕ, zero, suc, ◌-◌, ◌<◌, ◌≤◌, Bool, true, false, not, ◌&&◌, ◌||◌, List, [], ◌∷◌, ◌++◌, length, take, drop, get_or, slice_index_or, Ordering, Less, Greater, sym, refl, ap, ◌∙◌, subst, ⊎_elim, arith}
+use Rattle.std.specs.Ordering.{ordering_reverse}
 use Rattle.std.specs.List.{AllByRecursion, insert, remove}
 use Rattle.std.specs.List.Sorted.{IsStrictlySortedBy}
-use Rattle.std.proofs.lemmas.Bool.{or_right}
+use Rattle.std.proofs.lemmas.Bool.{cases_lt, or_right}
 use Rattle.std.proofs.lemmas.List.{get_or_default}
 use Rattle.std.proofs.lemmas.List.Elements.{All-from_recursion, recursion_from_All}
+use Rattle.std.proofs.lemmas.Map.Keys.{Less-from_sorted}
 use Rattle.keys.specs.Laws.{TotalOrder}
 use Rattle.index.specs.Sets.{pair_order, tie, holds, plus, minus}
 use Rattle.index.proofs.Listing.{or_turn}
-use Rattle.index.proofs.Pairs.{same_tie, tie_itself, lt_tie, gt_tie}
+use Rattle.index.proofs.Pairs.{pair_total, same_tie, tie_itself, lt_tie, gt_tie}
 
 -- no pair is in order
 pub none_sorted : {K : Type 0} (o : K → K → Ordering) (xs : List (K × ℕ)) → xs ≡ [] → IsStrictlySortedBy (pair_order o) xs
@@ -60,12 +62,32 @@ module _ {K : Type 0} (o : K → K → Ordering) (laws : TotalOrder o) where
   holds_put i xs q = λ j x. put_at i xs q x j
 
   -- what stands before i is below q, and the rest is above it
-  pub sorted_put : (q : K × ℕ) (i : ℕ) (xs : List (K × ℕ)) → IsStrictlySortedBy (pair_order o) xs → ((j : ℕ) → j < i → j < length xs → pair_order o (get_or xs j q) q ≡ Less) → ((j : ℕ) → i ≤ j → j < length xs → pair_order o q (get_or xs j q) ≡ Less) → IsStrictlySortedBy (pair_order o) (insert xs i q)
+  pub sorted_between : (q : K × ℕ) (i : ℕ) (xs : List (K × ℕ)) → IsStrictlySortedBy (pair_order o) xs → ((j : ℕ) → j < i → j < length xs → pair_order o (get_or xs j q) q ≡ Less) → ((j : ℕ) → i ≤ j → j < length xs → pair_order o q (get_or xs j q) ≡ Less) → IsStrictlySortedBy (pair_order o) (insert xs i q)
   unfolding IsStrictlySortedBy
-  sorted_put q zero xs s u v = (recursion_from_All (λ y. pair_order o q y ≡ Less) xs (λ j d l. subst (λ y. pair_order o q y ≡ Less) (get_or_default xs j q d l) (v j (omega arith) l)), s)
-  sorted_put q (suc i) [] s u v = (tt, tt)
-  sorted_put q (suc i) (x ∷ xs) s u v =
-      (all_put (λ y. pair_order o x y ≡ Less) q i xs (u 0 (omega arith) (omega arith)) s.0, sorted_put q i xs s.1 (λ j l m. u (suc j) (omega arith) (omega arith)) (λ j l m. v (suc j) (omega arith) (omega arith)))
+  sorted_between q zero xs s u v = (recursion_from_All (λ y. pair_order o q y ≡ Less) xs (λ j d l. subst (λ y. pair_order o q y ≡ Less) (get_or_default xs j q d l) (v j (omega arith) l)), s)
+  sorted_between q (suc i) [] s u v = (tt, tt)
+  sorted_between q (suc i) (x ∷ xs) s u v =
+      (all_put (λ y. pair_order o x y ≡ Less) q i xs (u 0 (omega arith) (omega arith)) s.0, sorted_between q i xs s.1 (λ j l m. u (suc j) (omega arith) (omega arith)) (λ j l m. v (suc j) (omega arith) (omega arith)))
+
+  -- the same by the two neighbours alone
+  pub sorted_put : (q : K × ℕ) (xs : List (K × ℕ)) (i : ℕ) → IsStrictlySortedBy (pair_order o) xs → i ≤ length xs → (0 < i → Greater ≡ pair_order o q (slice_index_or xs (i - 1) q)) → (i < length xs → Less ≡ pair_order o q (slice_index_or xs i q)) → IsStrictlySortedBy (pair_order o) (take i xs ++ q ∷ drop i xs)
+  sorted_put q xs i s h b a = sorted_between q i xs s under over
+    where
+      under : (j : ℕ) → j < i → j < length xs → pair_order o (get_or xs j q) q ≡ Less
+      under j l m =
+          let last : pair_order o (get_or xs (i - 1) q) q ≡ Less = (pair_total o laws).antisymm (get_or xs (i - 1) q) q ∙ ap ordering_reverse (sym (b (omega arith))) in
+          ⊎_elim
+          (λ (u : j < i - 1). (pair_total o laws).trans (get_or xs j q) (get_or xs (i - 1) q) q (Less-from_sorted (pair_order o) xs j (i - 1) q s u (omega arith)) last)
+          (λ (u : i - 1 ≤ j). let is : i - 1 ≡ j = omega arith in subst (λ n. pair_order o (get_or xs n q) q ≡ Less) is last)
+          (cases_lt j (i - 1))
+
+      over : (j : ℕ) → i ≤ j → j < length xs → pair_order o q (get_or xs j q) ≡ Less
+      over j l m =
+          let next : pair_order o q (get_or xs i q) ≡ Less = sym (a (omega arith)) in
+          ⊎_elim
+          (λ (u : i < j). (pair_total o laws).trans q (get_or xs i q) (get_or xs j q) next (Less-from_sorted (pair_order o) xs i j q s u m))
+          (λ (u : j ≤ i). let is : i ≡ j = omega arith in subst (λ n. pair_order o q (get_or xs n q) ≡ Less) is next)
+          (cases_lt i j)
 
   -- ---- one pair less
 

@@ -1,5 +1,6 @@
 // The calls of the index.
-ghost use Rattle.std.specs.Prelude.{◌≡◌, ◌≤◌};
+ghost use Rattle.std.specs.Prelude.{◌≡◌, ◌+◌, ◌<◌, ◌≤◌, vec_len, vec_capacity};
+ghost use Rattle.std.specs.List.{insert, remove};
 ghost use Rattle.std.proofs.Common.{subst};
 ghost use Rattle.std.proofs.lemmas.Map.Keys.{IsDistinct-from_sorted};
 ghost use Rattle.index.specs.Sets.{pair_order};
@@ -15,6 +16,28 @@ fn key_start(strictly: bool) -> Start
     ensures { result ≡ key_start strictly }
 {
     if strictly { Start::After } else { Start::At(0) }
+}
+
+/// Puts the pair before the one at `at`.
+fn insert_pair<K: Key>(pairs: &mut Vec<(K, usize)>, at: usize, key: K, place: usize)
+    requires inside { at ≤ vec_len pairs.old }
+    requires room { vec_len pairs.old < vec_capacity pairs.old }
+    ensures items { pairs.new.items ≡ insert pairs.old.items at (key, place) }
+    ensures len { vec_len pairs.new ≡ vec_len pairs.old + 1 }
+    ensures room { vec_capacity pairs.old ≤ vec_capacity pairs.new }
+{
+    // There is room, so it cannot fail.
+    let _ = pairs.insert(at, (key, place));
+}
+
+/// Takes out the pair at `at`.
+fn cut_pair<K: Key>(pairs: &mut Vec<(K, usize)>, at: usize)
+    requires { at < vec_len pairs.old }
+    ensures items { pairs.new.items ≡ remove pairs.old.items at }
+    ensures len { vec_len pairs.new + 1 ≡ vec_len pairs.old }
+    ensures room { vec_capacity pairs.new ≡ vec_capacity pairs.old }
+{
+    let _ = pairs.remove(at);
 }
 
 impl<K: Key> Index for InOrder<K> {
@@ -41,8 +64,7 @@ impl<K: Key> Index for InOrder<K> {
         if self.pairs.len() >= capacity {
             return Err(IndexFault { capacity });
         }
-        // There is room, so it cannot fail.
-        let _ = self.pairs.insert(at, (key, place));
+        insert_pair(&mut self.pairs, at, key, place);
         Ok(Put::Added)
     }
 
@@ -51,7 +73,7 @@ impl<K: Key> Index for InOrder<K> {
         let Ok(at) = self.find(key, place) else {
             return false;
         };
-        let _ = self.pairs.remove(at);
+        cut_pair(&mut self.pairs, at);
         true
     }
 

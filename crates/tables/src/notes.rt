@@ -1,5 +1,6 @@
 // Notes of serializable transactions.
-ghost use Rattle.std.specs.Prelude.{◌≡◌, map};
+ghost use Rattle.std.specs.Prelude.{◌≡◌, map, if◌then◌else◌, None};
+ghost use Rattle.seeing.specs.Phases.{is_serializable};
 ghost use Rattle.rules.specs.BookRules.{noting};
 ghost use Rattle.rules.specs.TableRules.{not_of, without_note};
 ghost use Rattle.tables.specs.Places.{pick};
@@ -7,7 +8,14 @@ ghost use Rattle.tables.specs.Steps.{Gives};
 
 use crate::{free_place, replace};
 use rules::{Entry, Note, Noted, Refusal};
-use seeing::Transaction;
+use seeing::{Level, Transaction};
+
+// What is to be noted: nothing, unless the transaction is serializable.
+fn if_serializable<K: Copy>(level: Level, what: Option<Noted<K>>) -> Option<Noted<K>>
+    ensures { result ≡ (if is_serializable level then what else None) }
+{
+    what.filter(|_| level.is_serializable())
+}
 
 /// The note that a serializable transaction makes, in a free entry; the number of its notes then.
 pub fn make_note<K: Copy>(
@@ -19,7 +27,7 @@ pub fn make_note<K: Copy>(
 ) -> Result<u64, Refusal>
     ensures { Gives (noting (pick hint notes.old) name t what notes.old) notes.old notes.new result }
 {
-    let Some(noted) = what.filter(|_| t.level.is_serializable()) else {
+    let Some(noted) = if_serializable(t.level, what) else {
         return Ok(t.made);
     };
     let place = free_place(notes, hint).ok_or(Refusal::Notes)?;

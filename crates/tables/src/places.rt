@@ -1,5 +1,5 @@
 // Places of a table: what stands there, which is free, and a write.
-ghost use Rattle.std.specs.Prelude.{◌≡◌, ◌<◌, true, false, length, drop, IfSome, MatchOption, OnSome, slice_set};
+ghost use Rattle.std.specs.Prelude.{◌≡◌, ◌<◌, true, false, length, drop, not, is_some, IfSome, MatchOption, OnSome, slice_set};
 ghost use Rattle.rules.specs.Tables.{entry, any_free, is_free, free_from, filled};
 ghost use Rattle.tables.specs.Places.{search_from, pick};
 
@@ -14,17 +14,23 @@ pub fn held_at<T: Copy>(table: &[Entry<T>], place: usize) -> Option<T>
     table.get(place)?.get()
 }
 
+// The table holds nothing at the place.
+fn is_vacant<T: Copy>(table: &[Entry<T>], place: usize) -> bool
+    ensures { result ≡ not (is_some (entry table.now place)) }
+{
+    held_at(table, place).is_none()
+}
+
 // The first free place at or after `from`.
 fn free_from<T: Copy>(table: &[Entry<T>], from: usize) -> Option<usize>
     ensures { result ≡ free_from from (drop from table.now) }
 {
-    (from..table.len()).find(|place| held_at(table, *place).is_none())
+    (from..table.len()).find(|place| is_vacant(table, *place))
 }
 
 // The first free place at or after the hint, or else the first of all.
 fn search_from<T: Copy>(table: &[Entry<T>], hint: usize) -> Option<usize>
-    ensures found { result ≡ search_from hint table.now }
-    ensures inside { IfSome result (λ p. p < length table.now) }
+    ensures { result ≡ search_from hint table.now }
 {
     free_from(table, hint).or_else(|| free_from(table, 0))
 }

@@ -8,7 +8,7 @@ ghost use Rattle.tables.specs.Steps.{Leaves};
 ghost use Rattle.walks.specs.Faults.{full_for};
 
 use crate::FaultFor;
-use index::Index;
+use index::{Index, IndexFault};
 use rules::{Entry, Refusal};
 use seeing::{Begin, End, Version};
 use tables::{free_place, replace};
@@ -19,6 +19,13 @@ impl From<FaultFor> for Refusal {
     fn from(beside: FaultFor) -> Refusal {
         Refusal::Full(beside.transaction, beside.fault)
     }
+}
+
+// The fault, with the transaction beside it.
+fn on_behalf(transaction: u64, fault: IndexFault) -> FaultFor
+    ensures { result ≡ record { transaction = transaction; fault = fault } }
+{
+    FaultFor { transaction, fault }
 }
 
 // A version that the transaction makes.
@@ -48,10 +55,9 @@ pub fn add<I: Index, V: Copy>(
     let Some(place) = free_place(versions, hint) else {
         return Err(Refusal::Versions);
     };
-    index.put(key, place).map_err(|fault| FaultFor {
-        transaction: name,
-        fault,
-    })?;
+    index
+        .put(key, place)
+        .map_err(|fault| on_behalf(name, fault))?;
     replace(versions, place, new_version(name, key, value));
     Ok(place)
 }

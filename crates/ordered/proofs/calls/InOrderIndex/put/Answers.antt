@@ -1,5 +1,4 @@
-use Rattle.std.proofs.Common.{◌≡◌, refl, arith, rules}
-use Rattle.std.specs.List.{insert}
+use Rattle.std.proofs.Common.{refl, arith}
 use Rattle.ordered.specs.Rows.{items}
 use Rattle.ordered.proofs.Changes.{found, lacking, put_says}
 use Rattle.ordered.proofs.calls.InOrderIndex.put.Goals as goal
@@ -14,5 +13,4 @@ returns-then-len-capacity-clause-says g c =
 
 pub returns-clause-says : goal.returns-clause-says
 returns-clause-says g c =
-    let e : c.insert.new.self.items ≡ insert (items c.args.self.now) c.in-Err.at (c.args.key, c.args.place) = search rules in
-    put_says g.K.Key.order g.K.Key.laws.total (items c.args.self.now) (c.args.key, c.args.place) c.in-Err.at c.args.self.now.sorted c.in-Err.ensures.within c.in-Err.ensures.position c.insert.new.self.items e c.args.self.now.limit (omega arith)
+    put_says g.K.Key.order g.K.Key.laws.total (items c.args.self.now) (c.args.key, c.args.place) c.in-Err.at c.args.self.now.sorted c.in-Err.ensures.within c.in-Err.ensures.position c.insert_pair.new.pairs.items c.insert_pair.ensures.items c.args.self.now.limit (omega arith)

@@ -9,4 +9,4 @@ returns-in_default-clause-says g c =
 
 pub returns-clause-says : goal.returns-clause-says
 returns-clause-says g c =
-    remove_says g.K.Key.order g.K.Key.laws.total (items c.args.self.now) (c.args.key, c.args.place) c.in-Ok.at c.in-Ok.ensures.within c.in-Ok.ensures.position c.remove.new.self.items c.args.self.now.sorted c.remove.ensures.items
+    remove_says g.K.Key.order g.K.Key.laws.total (items c.args.self.now) (c.args.key, c.args.place) c.in-Ok.at c.in-Ok.ensures.within c.in-Ok.ensures.position c.cut_pair.new.pairs.items c.args.self.now.sorted c.cut_pair.ensures.items
