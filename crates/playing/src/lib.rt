@@ -14,6 +14,13 @@ use rules::{Answer, Call, Entry, Note, Refusal, Row};
 use seeing::Version;
 use tables::set_at;
 
+// How many calls there is room for.
+fn room(calls: usize, answers: usize) -> usize
+    ensures { result ≡ min calls answers }
+{
+    calls.min(answers)
+}
+
 // Carries out the call and writes its answer at the place.
 fn play_one<I: Index, V: Copy>(
     store: &mut TableStore,
@@ -47,7 +54,7 @@ fn play_on<I: Index, V: Copy>(
     ensures counts { result ≡ min (length calls.now) (length answers.old) }
     ensures plays { PlaysOn I.Key.Key.order (around store.old.store versions.old notes.old (meaning I.Key.Key.order (I.pairs index.old) (I.limit index.old)) rows.old) (around store.new.store versions.new notes.new (meaning I.Key.Key.order (I.pairs index.new) (I.limit index.new)) rows.new) calls.now answers.old answers.new result }
 {
-    let count = calls.len().min(answers.len());
+    let count = room(calls.len(), answers.len());
     // The answer is written by its place: of what a zip with `iter_mut` writes the proof is told nothing.
     for (place, call) in calls[..count].iter().enumerate() {
         let _answer = play_one(store, versions, notes, index, rows, *call, answers, place);

@@ -5,4 +5,4 @@ pub returns-then-not-is_in_order : goal.returns-then-not-is_in_order
 returns-then-not-is_in_order g c = tally_lengths _ _ _ _ _ c.of.ensures c.if-not-is_in_order.ensures
 
 pub returns : goal.returns
-returns g c = tallied _ _ _ _ _ c.of.ensures c.if-not-is_in_order.ensures
+returns g c = tallied _ _ _ _ _ c.of.ensures c.if-not-is_in_order.ensures _ c.counts.ensures
