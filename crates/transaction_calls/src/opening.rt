@@ -1,9 +1,10 @@
 // Open and tally.
-ghost use Rattle.std.specs.Prelude.{◌≡◌, nat_lt};
+ghost use Rattle.std.specs.Prelude.{◌≡◌, Ok, Err, nat_lt, if◌then◌else◌};
 ghost use Rattle.rules.specs.declared.Answer.TheVariants as answer;
+ghost use Rattle.rules.specs.declared.Refusal.TheVariants as refusal;
 ghost use Rattle.rules.specs.Worlds.{around};
 ghost use Rattle.rules.specs.Index.{meaning};
-ghost use Rattle.rules.specs.Checks.{largest, Comes};
+ghost use Rattle.rules.specs.Checks.{largest, still_allowed, Comes};
 ghost use Rattle.rules.specs.TransactionRules.{tally_rule};
 ghost use Rattle.rules.specs.TableRules.{opened_store, open_rule};
 
@@ -56,10 +57,13 @@ pub fn open<I: Index, V: Copy>(
     Ok(Answer::Done)
 }
 
-fn counts<V: Copy>(store: &Store) -> Answer<V>
-    ensures { result ≡ answer.Tallied store.now.commits store.now.aborts }
+fn counts<V: Copy>(store: &Store, sizes: Sizes) -> Result<Answer<V>, Refusal>
+    ensures { result ≡ (if still_allowed store.now.opened sizes.versions sizes.notes sizes.capacity then Ok (answer.Tallied store.now.commits store.now.aborts) else Err refusal.Lengths) }
 {
-    Answer::Tallied(store.commits, store.aborts)
+    if !sizes.is_in_order(store.opened) {
+        return Err(Refusal::Lengths);
+    }
+    Ok(Answer::Tallied(store.commits, store.aborts))
 }
 
 /// The numbers of commits and of aborts since opening.
@@ -71,8 +75,5 @@ pub fn tally<I: Index, V: Copy>(
 ) -> Result<Answer<V>, Refusal>
     ensures { Comes tally_rule (around store.now versions.now notes.now (meaning I.Key.Key.order (I.pairs index.now) (I.limit index.now))) (around store.now versions.now notes.now (meaning I.Key.Key.order (I.pairs index.now) (I.limit index.now))) result }
 {
-    if !Sizes::of(versions, notes, index).is_in_order(store.opened) {
-        return Err(Refusal::Lengths);
-    }
-    Ok(counts(store))
+    counts(store, Sizes::of(versions, notes, index))
 }
