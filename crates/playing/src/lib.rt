@@ -5,7 +5,8 @@
 ghost use Rattle.std.specs.Prelude.{◌≡◌, min, length, Some, slice_set};
 ghost use Rattle.rules.specs.Index.{meaning};
 ghost use Rattle.rules.specs.Worlds.{around};
-ghost use Rattle.calls.specs.Promises.{Answers, GoesOn};
+ghost use Rattle.rules.specs.declared.Call.TheVariants as call;
+ghost use Rattle.calls.specs.Promises.{Answers, Begins, GoesOn};
 ghost use Rattle.playing.specs.Plays.{PlaysOn, Plays};
 
 use calls::TableStore;
@@ -13,6 +14,13 @@ use index::Index;
 use rules::{Answer, Call, Entry, Note, Refusal, Row};
 use seeing::Version;
 use tables::set_at;
+
+// How many calls there is room for.
+fn room(calls: usize, answers: usize) -> usize
+    ensures { result ≡ min calls answers }
+{
+    calls.min(answers)
+}
 
 // Carries out the call and writes its answer at the place.
 fn play_one<I: Index, V: Copy>(
@@ -47,12 +55,27 @@ fn play_on<I: Index, V: Copy>(
     ensures counts { result ≡ min (length calls.now) (length answers.old) }
     ensures plays { PlaysOn I.Key.Key.order (around store.old.store versions.old notes.old (meaning I.Key.Key.order (I.pairs index.old) (I.limit index.old)) rows.old) (around store.new.store versions.new notes.new (meaning I.Key.Key.order (I.pairs index.new) (I.limit index.new)) rows.new) calls.now answers.old answers.new result }
 {
-    let count = calls.len().min(answers.len());
+    let count = room(calls.len(), answers.len());
     // The answer is written by its place: of what a zip with `iter_mut` writes the proof is told nothing.
     for (place, call) in calls[..count].iter().enumerate() {
         let _answer = play_one(store, versions, notes, index, rows, *call, answers, place);
     }
     count
+}
+
+// Opens the store at the stamp.
+fn open_at<I: Index, V: Copy>(
+    store: &mut TableStore,
+    versions: &mut [Entry<Version<I::Key, V>>],
+    notes: &mut [Entry<Note<I::Key>>],
+    index: &mut I,
+    rows: &mut [Row<I::Key, V>],
+    stamp: u64,
+) -> Result<Answer<V>, Refusal>
+    ensures answers { Answers I.Key.Key.order (around store.old.store versions.old notes.old (meaning I.Key.Key.order (I.pairs index.old) (I.limit index.old)) rows.old) (around store.new.store versions.new notes.new (meaning I.Key.Key.order (I.pairs index.new) (I.limit index.new)) rows.new) (call.Open stamp) result }
+    ensures opens { Begins I.Key.Key.order (around store.new.store versions.new notes.new (meaning I.Key.Key.order (I.pairs index.new) (I.limit index.new)) rows.new) (call.Open stamp) result }
+{
+    store.perform(versions, notes, index, rows, Call::Open(stamp))
 }
 
 /// Opens the store at the stamp and carries out the calls in order, as many as there is room for in the answers table,
@@ -69,6 +92,6 @@ pub fn play<I: Index, V: Copy>(
 ) -> Result<usize, Refusal>
     ensures { Plays I.Key.Key.order stamp (around store.old.store versions.old notes.old (meaning I.Key.Key.order (I.pairs index.old) (I.limit index.old)) rows.old) (around store.new.store versions.new notes.new (meaning I.Key.Key.order (I.pairs index.new) (I.limit index.new)) rows.new) calls.now answers.old answers.new result }
 {
-    store.perform(versions, notes, index, rows, Call::Open(stamp))?;
+    open_at(store, versions, notes, index, rows, stamp)?;
     Ok(play_on(store, versions, notes, index, rows, calls, answers))
 }

@@ -1,6 +1,5 @@
 -- Commit, abort and finish, from check to check. Assumes nothing.
-use Rattle.std.proofs.Common.{◌≡◌, ℕ, ◌<◌, ◌≤◌, Bool, true, false, not, ltb, List, map, length, set, is_some, Some, None, Ok, Err, Option, sym, ap, ◌∙◌}
-use Rattle.std.proofs.lemmas.Bool.{lt-ltb, le-ltb}
+use Rattle.std.proofs.Common.{◌≡◌, ℕ, Bool, true, false, not, ltb, List, map, length, set, is_some, Some, None, Ok, Err, Option, sym, ap, ◌∙◌}
 use Rattle.seeing.specs.declared.Phase.{Phase}
 use Rattle.seeing.specs.declared.Phase.TheVariants.{Committed}
 use Rattle.seeing.specs.declared.Transaction.{Transaction}
@@ -67,26 +66,26 @@ module _ {K V : Type 0} (s : Store) (vs : List (Entry (Version K V))) (ns : List
         sound_so : (sound s (length vs) (length ns) i.capacity n validated ≡ Ok t) × (o ≡ Some stamp)
         sound_so = sound_given s (length vs) (length ns) i.capacity n validated (slot, t) (h ∙ at) o (ap is_some eo) stamp k
 
-        pub commit_waits : 0 < waited_on → Refused (λ w. commit_rule w n) (Err (refusal.Waiting waited_on))
-        commit_waits l = refused (λ w. commit_rule w n) _ _ (λ rows. go_on _ sound_so.0 ∙ go_on _ (have _ (sym eo ∙ sound_so.1)) ∙ stop _ _ _ (ap (ltb 0) (sym is) ∙ lt-ltb 0 waited_on l) ∙ ap {B = Outcome K V} (λ (m : ℕ). Err (refusal.Waiting m)) (sym is))
+        pub commit_waits : true ≡ ltb 0 waited_on → Refused (λ w. commit_rule w n) (Err (refusal.Waiting waited_on))
+        commit_waits l = refused (λ w. commit_rule w n) _ _ (λ rows. go_on _ sound_so.0 ∙ go_on _ (have _ (sym eo ∙ sound_so.1)) ∙ stop _ _ _ (ap (ltb 0) (sym is) ∙ sym l) ∙ ap {B = Outcome K V} (λ (m : ℕ). Err (refusal.Waiting m)) (sym is))
 
-        pub committed : waited_on ≤ 0 → (s' : Store) → s' ≡ one_more_commit (with_slots s (release t.name (set s.slots slot (Some (with_phase (Committed stamp) t))))) → Comes (λ w. commit_rule w n) (around s vs ns i) (around s' vs ns i) (Ok answer.Done)
+        pub committed : false ≡ ltb 0 waited_on → (s' : Store) → s' ≡ one_more_commit (with_slots s (release t.name (set s.slots slot (Some (with_phase (Committed stamp) t))))) → Comes (λ w. commit_rule w n) (around s vs ns i) (around s' vs ns i) (Ok answer.Done)
         committed l s' es =
             comes (λ w. commit_rule w n) _ _ _
-            (λ rows. go_on _ sound_so.0 ∙ go_on _ (have _ (sym eo ∙ sound_so.1)) ∙ pass _ _ _ (ap (ltb 0) (sym is) ∙ le-ltb 0 waited_on l)
+            (λ rows. go_on _ sound_so.0 ∙ go_on _ (have _ (sym eo ∙ sound_so.1)) ∙ pass _ _ _ (ap (ltb 0) (sym is) ∙ sym l)
             ∙ ap {B = Outcome K V} (λ ts. Ok (around (one_more_commit (with_slots s (release n ts))) vs ns i rows, Ok answer.Done)) (change_found s.slots n slot t is_found (with_phase (Committed stamp)))
             ∙ ap {B = Outcome K V} (λ (m : ℕ). Ok (around (one_more_commit (with_slots s (release m (set s.slots slot (Some (with_phase (Committed stamp) t)))))) vs ns i rows, Ok answer.Done)) (sym (found_name s.slots n 0 (slot, t) is_found))
             ∙ (λ j. Ok (around (sym es j) vs ns i rows, Ok answer.Done)))
 
     -- ---- abort
 
-    pub abort_phase : true ≡ is_over t.phase → Refused (λ w. abort_rule w n) (Err refusal.Phase)
-    abort_phase p = refused (λ w. abort_rule w n) _ _ (λ rows. give_up _ (named_phase s (length vs) (length ns) i.capacity n unended (slot, t) (h ∙ at) (ap not (sym p))))
+    pub abort_phase : false ≡ unended t.phase → Refused (λ w. abort_rule w n) (Err refusal.Phase)
+    abort_phase p = refused (λ w. abort_rule w n) _ _ (λ rows. give_up _ (named_phase s (length vs) (length ns) i.capacity n unended (slot, t) (h ∙ at) (sym p)))
 
-    pub aborted : false ≡ is_over t.phase → (s' : Store) → s' ≡ abort_store n s → Comes (λ w. abort_rule w n) (around s vs ns i) (around s' vs ns i) (Ok answer.Done)
+    pub aborted : true ≡ unended t.phase → (s' : Store) → s' ≡ abort_store n s → Comes (λ w. abort_rule w n) (around s vs ns i) (around s' vs ns i) (Ok answer.Done)
     aborted p s' es =
         comes (λ w. abort_rule w n) _ _ _
-        (λ rows. go_on _ (named_fine s (length vs) (length ns) i.capacity n unended (slot, t) (h ∙ at) (ap not (sym p))) ∙ (λ j. Ok (around (sym es j) vs ns i rows, Ok answer.Done)))
+        (λ rows. go_on _ (named_fine s (length vs) (length ns) i.capacity n unended (slot, t) (h ∙ at) (sym p)) ∙ (λ j. Ok (around (sym es j) vs ns i rows, Ok answer.Done)))
 
     -- ---- finish
 

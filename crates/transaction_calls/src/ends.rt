@@ -1,7 +1,8 @@
 // Commit, abort and finish.
 ghost use Rattle.rules.specs.Checks.{Comes};
-ghost use Rattle.std.specs.Prelude.{◌≡◌, Some, slice_set};
+ghost use Rattle.std.specs.Prelude.{◌≡◌, Some, nat_lt, not, slice_set};
 ghost use Rattle.seeing.specs.declared.Phase.TheVariants.{Committed};
+ghost use Rattle.seeing.specs.Phases.{is_over};
 ghost use Rattle.rules.specs.Index.{meaning};
 ghost use Rattle.rules.specs.Worlds.{with_slots, around};
 ghost use Rattle.rules.specs.Slots.{with_phase, release, one_more_commit};
@@ -14,6 +15,12 @@ use rules::{Answer, Entry, Note, Refusal, Store};
 use seeing::{Phase, Transaction, Version};
 use slots::{abort_one, count_waits, release};
 use tables::{Seated, Sizes, free_notes, named, settle_all};
+
+fn is_any(number: usize) -> bool
+    ensures { result ≡ nat_lt 0 number }
+{
+    0 < number
+}
 
 // The transaction is committed at the stamp, and nobody waits on it.
 fn commit_one(store: &mut Store, one: Seated, stamp: u64)
@@ -40,11 +47,18 @@ pub fn commit<I: Index, V: Copy>(
     let one = named(store, Sizes::of(versions, notes, index), transaction)?;
     let stamp = one.sound(one.transaction.phase.if_validated())?;
     let waited_on = count_waits(&one.transaction.waits);
-    if 0 < waited_on {
+    if is_any(waited_on) {
         return Err(Refusal::Waiting(waited_on));
     }
     commit_one(store, one, stamp);
     Ok(Answer::Done)
+}
+
+// What abort asks of the phase.
+fn may_abort(phase: Phase) -> bool
+    ensures { result ≡ not (is_over phase) }
+{
+    !phase.is_over()
 }
 
 /// The transaction is aborted, and those that wait on it are doomed.
@@ -58,11 +72,18 @@ pub fn abort<I: Index, V: Copy>(
     ensures { Comes (λ w. abort_rule w transaction) (around store.old versions.now notes.now (meaning I.Key.Key.order (I.pairs index.now) (I.limit index.now))) (around store.new versions.now notes.now (meaning I.Key.Key.order (I.pairs index.now) (I.limit index.now))) result }
 {
     let one = named(store, Sizes::of(versions, notes, index), transaction)?;
-    if one.transaction.phase.is_over() {
+    if !may_abort(one.transaction.phase) {
         return Err(Refusal::Phase);
     }
     abort_one(store, transaction);
     Ok(Answer::Done)
+}
+
+// What finish asks of the phase.
+fn may_finish(outcome: Phase) -> bool
+    ensures { result ≡ is_over outcome }
+{
+    outcome.is_over()
 }
 
 /// The transaction leaves: its notes and its slot are freed, and its name becomes stamps in all versions.
@@ -76,7 +97,7 @@ pub fn finish<I: Index, V: Copy>(
     ensures { Comes (λ w. finish_rule w transaction) (around store.old versions.old notes.old (meaning I.Key.Key.order (I.pairs index.now) (I.limit index.now))) (around store.new versions.new notes.new (meaning I.Key.Key.order (I.pairs index.now) (I.limit index.now))) result }
 {
     let one = named(store, Sizes::of(versions, notes, index), transaction)?;
-    if !one.transaction.phase.is_over() {
+    if !may_finish(one.transaction.phase) {
         return Err(Refusal::Phase);
     }
     settle_all(versions, store.last, transaction, one.transaction.phase);
