@@ -79,6 +79,10 @@ module _ {A : Type 0} where
       let r = free_some i p (drop i xs) e in
       ap (is_free xs) r.1 ∙ free_beyond i r.0 xs r.2
 
+  pub first_inside : (i : ℕ) (xs : List (Entry A)) (r : Option ℕ) → r ≡ free_from i (drop i xs) → IfSome r (λ p. p < length xs)
+  first_inside i xs None e = tt
+  first_inside i xs (Some p) e = free_inside xs p (at_from i p xs (sym e))
+
   abbrev pub Picked : ℕ → List (Entry A) → Option ℕ → Type 0
   Picked hint xs r = MatchOption r (any_free xs ≡ false) (λ p. (p ≡ pick hint xs) × (is_free xs p ≡ true))
 

@@ -23,14 +23,16 @@ fn is_vacant<T: Copy>(table: &[Entry<T>], place: usize) -> bool
 
 // The first free place at or after `from`.
 fn free_from<T: Copy>(table: &[Entry<T>], from: usize) -> Option<usize>
-    ensures { result ≡ free_from from (drop from table.now) }
+    ensures found { result ≡ free_from from (drop from table.now) }
+    ensures inside { IfSome result (λ p. p < length table.now) }
 {
     (from..table.len()).find(|place| is_vacant(table, *place))
 }
 
 // The first free place at or after the hint, or else the first of all.
 fn search_from<T: Copy>(table: &[Entry<T>], hint: usize) -> Option<usize>
-    ensures { result ≡ search_from hint table.now }
+    ensures found { result ≡ search_from hint table.now }
+    ensures inside { IfSome result (λ p. p < length table.now) }
 {
     free_from(table, hint).or_else(|| free_from(table, 0))
 }
