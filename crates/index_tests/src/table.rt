@@ -78,12 +78,12 @@ impl From<Result<Put, IndexFault>> for Told {
     }
 }
 
-fn number_of<K: Key + PartialEq + Drop>(keys: &[K; 6], key: Option<K>) -> Told {
-    key.and_then(|key| keys.iter().position(|k| *k == key))
+fn number_of<K: Key + Drop>(keys: &[K; 6], key: Option<K>) -> Told {
+    key.and_then(|key| keys.iter().position(|k| k.equals(&key)))
         .map_or(Told::Nothing, Told::Key)
 }
 
-fn answer_to<K: Key + PartialEq + Drop, I: Index<Key = K>>(
+fn answer_to<K: Key + Drop, I: Index<Key = K>>(
     index: &mut I,
     keys: &[K; 6],
     question: Ask,
@@ -103,11 +103,7 @@ fn answer_to<K: Key + PartialEq + Drop, I: Index<Key = K>>(
     }
 }
 
-fn play<K: Key + PartialEq + Drop, I: Index<Key = K>>(
-    rt: &impl Abort,
-    index: &mut I,
-    keys: [K; 6],
-) {
+fn play<K: Key + Drop, I: Index<Key = K>>(rt: &impl Abort, index: &mut I, keys: [K; 6]) {
     for (i, (question, told)) in CASES.iter().enumerate() {
         assert_eq!(rt; answer_to(index, &keys, *question), *told, "{i}");
     }

@@ -45,5 +45,6 @@ pub fn active(store: &Store, sizes: Sizes, name: u64) -> Result<Seated, Refusal>
     ensures { through (λ x. (x.slot, x.transaction)) result ≡ located store.now sizes.versions sizes.notes sizes.capacity name }
 {
     let one = named(store, sizes, name)?;
-    one.sound(one.transaction.phase.is_active().then_some(one))
+    one.sound(one.transaction.phase.is_active().then_some(()))?;
+    Ok(one)
 }

@@ -17,7 +17,11 @@ impl<I: Index, V: Copy> Search<'_, I, V> {
         let (_, version) = met;
         let sight = Sight::at_begin(self.slots, self.name);
         Survey {
-            seen: survey.seen.or(sight.sees(&version).then_some(met)),
+            // Not by `or` and `then_some`: each moves the version once more.
+            seen: match survey.seen {
+                None if sight.sees(&version) => Some(met),
+                seen => seen,
+            },
             waits: marked(self.slots, sight.waits_for(&version), survey.waits),
             newer: survey.newer || version.begin.is_too_new(version.end, self.slots, self.name),
         }
